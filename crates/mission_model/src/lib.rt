@@ -1,0 +1,25 @@
+//! The words that all crates share: plans and items, requests and replies, messages and answers, the lines of
+//! a record and the parts of a script. Plain data, and the limits of the product.
+#![tactic(auto)]
+
+mod counts;
+mod flight_line;
+pub mod limits;
+mod message;
+mod plan;
+mod request;
+mod schedule;
+mod vehicle;
+mod watch;
+
+pub use counts::{Counts, Mark};
+pub use flight_line::{Actor, Line};
+pub use message::{AckCode, Answer, Message, Said};
+pub use plan::{Home, Item, Param, Params, PlanHead, PlanType};
+pub use request::{Asked, Client, Reply, Request};
+pub use schedule::{
+    BootScript, Boots, CutSpec, InputLine, Inputs, Items, Name, NamedPlan, Plans, Script, TearKind,
+    Turns,
+};
+pub use vehicle::{BootState, Look, Mode, NavEntry, NavWhat, VehicleLine};
+pub use watch::{Note, WatchInput, WatchOut};
