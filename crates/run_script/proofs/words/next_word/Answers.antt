@@ -1,0 +1,23 @@
+use Rattle.std.proofs.Common.{◌≤◌, arith, ◌≡◌, ◌<◌, ◌∷◌, [], length, MatchOption, ℕ, ◌+◌, ◌-◌, drop, take, ◌∙◌, ap, List, sym, refl}
+use Rattle.std.proofs.lemmas.Grind.{common_steps}
+use Rattle.run_script.specs.Words.{words_of}
+use Rattle.run_script.proofs.FirstWord.{words_of-cons, words_of-none, words_of-drop_blanks, rest-is}
+use Rattle.run_script.proofs.words.next_word.Goals as goal
+
+pub returns-then-is_empty : goal.returns-then-is_empty
+returns-then-is_empty c =
+    let line = c.args.line.now in
+    let none : take (length line - c.blanks_len.result) (drop c.blanks_len.result line) ≡ [] = grind (arith, common_steps) in
+    let rest : drop c.blanks_len.result line ≡ [] = sym (rest-is c.blanks_len.result line) ∙ none in
+    sym (words_of-drop_blanks line) ∙ (ap (λ (n : ℕ). words_of (drop n line)) (sym c.blanks_len.ensures.place) ∙ (ap words_of rest ∙ words_of-none))
+
+pub returns : goal.returns
+returns c =
+    let line = c.args.line.now in
+    let end = c.word_len-end.result in
+    let text : List ℕ = take (length line - c.blanks_len.result) (drop c.blanks_len.result line) in
+    let t = rest-is c.blanks_len.result line ∙ ap (λ (n : ℕ). drop n line) c.blanks_len.ensures.place in
+    let some : 0 < length text = grind (arith, common_steps) in
+    let cut = words_of-cons line text end t c.word_len-end.ensures.place c.word_len-end.ensures.within some in
+    let short : length text ≤ length line = grind (arith, common_steps) in
+    rw (rest-is end text) (cut.0, grind (arith, common_steps))
