@@ -2,5 +2,8 @@
 //! A line is judged by its place among the lines before it and by its words alone.
 #![tactic(auto)]
 
+mod bounds;
 mod lines;
+mod numbers;
+mod row;
 mod words;

@@ -49,3 +49,44 @@ pub(crate) fn next_word(line: &[u8]) -> Option<(&[u8], &[u8])>
     let end = word_len(text);
     Some((&text[..end], &text[end..]))
 }
+
+/// The word at a place, from 0; no bytes past the last.
+pub(crate) fn word(place: usize, line: &[u8]) -> &[u8]
+    ensures { result.now ≡ word place (words_of line.now) }
+{
+    match next_word(line) {
+        Some((first, behind)) => {
+            if place == 0 {
+                first
+            } else {
+                word(place - 1, behind)
+            }
+        },
+        None => &[],
+    }
+}
+
+/// How many words a line has.
+pub(crate) fn count_words(line: &[u8]) -> usize
+    ensures { result ≡ length (words_of line.now) }
+{
+    let mut rest = line;
+    let mut count = 0;
+    while let Some((_, behind)) = next_word(rest) {
+        count += 1;
+        rest = behind;
+    }
+    count
+}
+
+/// Whether a line's words are those of a text.
+#[tactic(auto, unfolding(crate::specs::Words::says))]
+pub(crate) fn says(line: &[u8], text: &[u8]) -> bool
+    ensures { result ≡ says (words_of line.now) text.now }
+{
+    match (next_word(line), next_word(text)) {
+        (Some((left, line)), Some((right, text))) => left == right && says(line, text),
+        (None, None) => true,
+        _ => false,
+    }
+}
