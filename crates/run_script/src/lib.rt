@@ -3,7 +3,10 @@
 #![tactic(auto)]
 
 mod bounds;
+mod fault;
+mod inputs;
 mod lines;
 mod numbers;
+mod place;
 mod row;
 mod words;

@@ -10,10 +10,10 @@ use crate::words::{count_words, word};
 use mission_model::{Item, Param};
 
 #[tactic(auto, unfolding(crate::specs::Rows::starts_waypoint))]
-fn starts_waypoint(place: u16, line: &[u8]) -> bool
+fn starts_waypoint(place: usize, line: &[u8]) -> bool
     ensures { result ≡ starts_waypoint place (words_of line.now) }
 {
-    is_within(u64::from(place), u64::from(place), word(0, line))
+    is_within(place as u64, place as u64, word(0, line))
         && is_within(0, 1, word(1, line))
         && is_within(u64::from(GLOBAL_FRAME), u64::from(GLOBAL_FRAME), word(2, line))
         && is_within(u64::from(WAYPOINT), u64::from(WAYPOINT), word(3, line))
@@ -63,7 +63,7 @@ fn waypoint(line: &[u8]) -> Option<Item>
 
 #[tactic(auto, unfolding(crate::specs::Rows::row_of))]
 /// The waypoint that a line states as the row at this place of a plan.
-pub(crate) fn row(place: u16, line: &[u8]) -> Option<Item>
+pub(crate) fn row(place: usize, line: &[u8]) -> Option<Item>
     ensures { result ≡ row_of place (words_of line.now) }
 {
     if count_words(line) == ROW_WORDS && starts_waypoint(place, line) {
