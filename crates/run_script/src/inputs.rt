@@ -1,6 +1,6 @@
 //! The lines behind `boot`: inputs of link 0 and of the Navigator, and turns.
 
-ghost use Rattle.std.specs.Prelude.{◌≡◌, ◌<◌, ◌≤◌, MatchOption};
+ghost use Rattle.std.specs.Prelude.{◌≡◌, ◌<◌, ◌≤◌, MatchOption, drop};
 ghost use Rattle.run_script.specs.Words.{words_of};
 ghost use Rattle.run_script.specs.Reads.{Reads};
 ghost use Rattle.run_script.specs.Inputs.{has_form, items_named, meeting, upload, link_input, event_of, nav_input, input_of, is_upload, has_room, actor_of, actors_of, more_turns};
@@ -163,11 +163,23 @@ fn actors(alloc: Global, words: &[u8]) -> Result<Turns, ScriptFault>
     let mut actors = Vec::new(alloc);
     let mut rest = words;
     while let Some((name, behind)) = next_word(rest) {
-        let actor = actor(name).ok_or(ScriptFault::NotYet)?;
+        let Some(actor) = actor(name) else {
+            return Err(ScriptFault::NotYet);
+        };
         actors.push(actor)?;
         rest = behind;
     }
     Ok(Turns::from_vec(actors))
+}
+
+/// What stands behind the first word of a line.
+fn behind_first(line: &[u8]) -> &[u8]
+    ensures { words_of result.now ≡ drop 1 (words_of line.now) }
+{
+    match next_word(line) {
+        Some((_, behind)) => behind,
+        None => line,
+    }
 }
 
 /// The turns with those of a line `turns ..` behind them.
@@ -175,11 +187,7 @@ fn actors(alloc: Global, words: &[u8]) -> Result<Turns, ScriptFault>
 pub(crate) fn more_turns(alloc: Global, turns: Turns, line: &[u8]) -> Result<Turns, ScriptFault>
     ensures { Reads result (more_turns turns (words_of line.now)) }
 {
-    let words = match next_word(line) {
-        Some((_, behind)) => behind,
-        None => &[],
-    };
-    let actors = actors(alloc, words)?.into_vec();
+    let actors = actors(alloc, behind_first(line))?.into_vec();
     let mut list = turns.into_vec();
     if actors.is_empty() || MAX_TURN_WORDS < list.len() + actors.len() {
         return Err(ScriptFault::NotYet);

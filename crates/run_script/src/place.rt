@@ -1,6 +1,7 @@
 //! The places among the lines of a script: what has been read, and which lines may follow.
 
 ghost use Rattle.std.specs.Prelude.{◌≡◌, ◌<◌, ◌≤◌};
+ghost use Rattle.std.specs.List.{list_all, list_any};
 ghost use Rattle.run_script.specs.Words.{words_of};
 ghost use Rattle.run_script.specs.Reads.{Reads};
 ghost use Rattle.run_script.specs.Places.{is_name_byte, is_name, new_name, after_head, after_rows, after_boot, after, is_link, links_of, script_at};
@@ -44,10 +45,16 @@ fn is_name_byte(byte: u8) -> bool
     byte.is_ascii_lowercase() || byte.is_ascii_digit()
 }
 
+fn are_name_bytes(name: &[u8]) -> bool
+    ensures { result ≡ list_all is_name_byte name.now }
+{
+    name.iter().all(|byte| is_name_byte(*byte))
+}
+
 fn is_name(name: &[u8]) -> bool
     ensures { result ≡ is_name name.now }
 {
-    !name.is_empty() && name.len() <= MAX_NAME_BYTES && name.iter().all(|byte| is_name_byte(*byte))
+    !name.is_empty() && name.len() <= MAX_NAME_BYTES && are_name_bytes(name)
 }
 
 /// The new name that a line `plan` gives.
@@ -141,15 +148,23 @@ fn is_link(actor: &Actor) -> bool
     matches!(actor, Actor::Link(_))
 }
 
+fn have_link_input(inputs: &[(Actor, InputLine)]) -> bool
+    ensures { result ≡ list_any (λ input. is_link input.0) inputs.now }
+{
+    inputs.iter().any(|input| is_link(&input.0))
+}
+
+fn have_link(turns: &[Actor]) -> bool
+    ensures { result ≡ list_any is_link turns.now }
+{
+    turns.iter().any(|actor| is_link(actor))
+}
+
 #[tactic(auto, unfolding(crate::specs::Places::links_of))]
 fn links(inputs: &[(Actor, InputLine)], turns: &[Actor]) -> u8
     ensures { result ≡ links_of inputs.now turns.now }
 {
-    if inputs.iter().any(|input| is_link(&input.0)) || turns.iter().any(is_link) {
-        1
-    } else {
-        0
-    }
+    if have_link_input(inputs) || have_link(turns) { 1 } else { 0 }
 }
 
 impl Place {
