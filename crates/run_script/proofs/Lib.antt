@@ -1,3 +1,4 @@
 pub mod FirstLine
 pub mod FirstWord
 pub mod Actors
+pub mod Reading

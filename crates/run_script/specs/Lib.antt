@@ -5,3 +5,4 @@ pub mod Rows
 pub mod Reads
 pub mod Inputs
 pub mod Places
+pub mod Scripts

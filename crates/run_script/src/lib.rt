@@ -8,5 +8,6 @@ mod inputs;
 mod lines;
 mod numbers;
 mod place;
+mod read;
 mod row;
 mod words;
