@@ -2,3 +2,4 @@ pub mod FirstLine
 pub mod FirstWord
 pub mod Actors
 pub mod Reading
+pub mod StatedRows

@@ -6,3 +6,4 @@ pub mod Reads
 pub mod Inputs
 pub mod Places
 pub mod Scripts
+pub mod Flyable

@@ -1,7 +1,8 @@
 //! A whole script, line by line: each line leads from its place among the lines to the next place.
 
-ghost use Rattle.std.specs.Prelude.{◌≤◌, length, MatchResult};
+ghost use Rattle.std.specs.Prelude.{◌≤◌, length, IfOk, MatchResult};
 ghost use Rattle.run_script.specs.Reads.{Reads};
+ghost use Rattle.run_script.specs.Flyable.{IsFlyable};
 ghost use Rattle.run_script.specs.Scripts.{after_line, FirstScript, IsFaultAt};
 
 use crate::bounds::{MAX_LINE_BYTES, MAX_SCRIPT_BYTES};
@@ -27,7 +28,8 @@ fn after_line(alloc: Global, place: Place, line: &[u8]) -> Result<Place, ScriptF
 /// early that is the line behind the last.
 pub fn read_script(alloc: Global, bytes: &[u8]) -> Result<Script, (u32, ScriptFault)>
     requires { length bytes.now ≤ MAX_SCRIPT_BYTES }
-    ensures { MatchResult result (FirstScript bytes.now) (λ at. IsFaultAt bytes.now at.0 at.1) }
+    ensures read { MatchResult result (FirstScript bytes.now) (λ at. IsFaultAt bytes.now at.0 at.1) }
+    ensures flyable { IfOk result IsFlyable }
 {
     let mut place = Place::Top;
     let mut number: u32 = 0;

@@ -5,14 +5,15 @@ use Rattle.run_script.specs.Places.{script_at}
 use Rattle.run_script.specs.declared.fault.ScriptFault.{ScriptFault}
 use Rattle.run_script.specs.declared.fault.ScriptFault.TheVariants.{NotYet, Memory}
 use Rattle.run_script.proofs.Reading.{fault_at, next_of, place_behind-next, stops_at, ends_at, reads_all}
+use Rattle.run_script.proofs.StatedRows.{row_of-some}
 use Rattle.run_script.proofs.read.read_script.Goals as goal
 
 pub loop-line-init : goal.loop-line-init
 unfolding place_behind
 loop-line-init c = record { read = refl; left = refl; counted = omega arith; short = omega arith }
 
-pub returns-in-Err : goal.returns-in-Err
-returns-in-Err c =
+pub returns-in-Err-clause-read : goal.returns-in-Err-clause-read
+returns-in-Err-clause-read c =
     let text = c.args.bytes.now in
     let before = c.loop-line.invariant in
     let line = c.in-Some.line.now in
@@ -32,11 +33,14 @@ loop-line-preserved c =
       short = omega (arith, before.short, c.in-Some.ensures.1);
     }
 
-pub returns-in-Ok-script : goal.returns-in-Ok-script
-returns-in-Ok-script c = reads_all c.args.bytes.now c.loop-line.number c.loop-line.place c.in-Ok-script.script c.loop-line.invariant.read (c.loop-line.invariant.left ∙ c.in_default.ensures) c.in-Ok-script.ensures
+pub returns-in-Ok-script-clause-read : goal.returns-in-Ok-script-clause-read
+returns-in-Ok-script-clause-read c = reads_all c.args.bytes.now c.loop-line.number c.loop-line.place c.in-Ok-script.script c.loop-line.invariant.read (c.loop-line.invariant.left ∙ c.in_default.ensures) c.in-Ok-script.ensures
 
-pub returns-in-Err-script : goal.returns-in-Err-script
-returns-in-Err-script c =
+pub returns-in-Err-script-clause-read : goal.returns-in-Err-script-clause-read
+returns-in-Err-script-clause-read c =
     let text = c.args.bytes.now in
     let before = c.loop-line.invariant in
     fault_at text (c.loop-line.number + 1) (script_at c.loop-line.place) c.in-Err-script.fault (ends_at text c.loop-line.number c.loop-line.place before.read (before.left ∙ c.in_default.ensures) before.counted) c.in-Err-script.ensures
+
+pub returns-in-Ok-script-clause-flyable : goal.returns-in-Ok-script-clause-flyable
+returns-in-Ok-script-clause-flyable c = ?
