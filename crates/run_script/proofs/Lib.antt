@@ -3,3 +3,5 @@ pub mod FirstWord
 pub mod Actors
 pub mod Reading
 pub mod StatedRows
+pub mod StatedInputs
+pub mod StatedScripts

@@ -1,5 +1,5 @@
 -- How the place among the lines goes on, line by line.
-use Rattle.std.proofs.Common.{◌≡◌, ℕ, ◌+◌, ◌-◌, ◌<◌, ◌≤◌, List, [], ◌∷◌, ◌++◌, length, take, drop, Bool, true, false, refl, sym, ◌∙◌, ap, arith, suc, zero, add-one, length-drop}
+use Rattle.std.proofs.Common.{◌≡◌, ℕ, ◌+◌, ◌-◌, ◌<◌, ◌≤◌, List, [], ◌∷◌, ◌++◌, length, take, drop, refl, sym, ◌∙◌, ap, arith, suc, zero, add-one, length-drop}
 use Rattle.std.proofs.lemmas.List.{take-append-drop}
 use Rattle.std.proofs.lemmas.Grind.{common_steps}
 use Rattle.std.specs.Prelude.{Option, Some, None, option_and_then, is_some, Err}
@@ -8,7 +8,7 @@ use Rattle.run_script.specs.declared.place.Place.{Place}
 use Rattle.run_script.specs.declared.place.Place.TheVariants.{Top}
 use Rattle.run_script.specs.Lines.{lines_of}
 use Rattle.run_script.specs.Places.{script_at}
-use Rattle.run_script.specs.Scripts.{after_line, place_behind, begins, script_of, FirstScript, NotYetAt, IsFaultAt}
+use Rattle.run_script.specs.Scripts.{after_line, place_behind, script_of, FirstScript, NotYetAt, IsFaultAt}
 use Rattle.run_script.specs.Reads.{Reads}
 use Rattle.run_script.specs.declared.fault.ScriptFault.{ScriptFault}
 use Rattle.run_script.specs.declared.fault.ScriptFault.TheVariants.{NotYet, Memory}

@@ -1,14 +1,13 @@
 -- What the numbers and the rows state.
-use Rattle.std.proofs.Common.{◌≡◌, ℕ, ◌+◌, ◌*◌, ◌<◌, ◌≤◌, List, [], ◌∷◌, ◌++◌, length, drop, Bool, true, false, cond, ◌&&◌, refl, sym, ◌∙◌, ap, subst, arith}
+use Rattle.std.proofs.Common.{◌≡◌, ℕ, ◌≤◌, List, length, drop, Bool, true, false, cond, ◌&&◌, refl, subst, arith}
 use Rattle.std.proofs.lemmas.Int.{ints}
-use Rattle.std.proofs.lemmas.Grind.{common_steps}
 use Rattle.std.proofs.lemmas.Bool.Decides.{nat_tests}
 use Rattle.std.proofs.lemmas.Option.{option_and_then_some, same_Some}
-use Rattle.std.specs.Prelude.{Option, Some, None, option_map, option_and_then, nat_le, ◌==◌, ℤ, pos, neg_ℤ, ◌*ℤ◌, ◌≤ℤ◌}
+use Rattle.std.specs.Prelude.{Option, Some, None, option_map, nat_le, ◌==◌, ℤ, pos, neg_ℤ, ◌*ℤ◌}
 use Rattle.std.specs.Str.Parse.{starts_with_minus}
 use Rattle.mission_model.specs.declared.plan.Item.{Item}
 use Rattle.mission_model.specs.declared.plan.Param.{Param}
-use Rattle.mission_model.specs.declared.plan.Param.TheVariants.{Unset, Milli}
+use Rattle.mission_model.specs.declared.plan.Param.TheVariants.{Milli}
 use Rattle.run_script.specs.declared.bounds.TheConstants.{ROW_WORDS, GLOBAL_FRAME, WAYPOINT, MAX_PARAM, MAX_LATITUDE, MAX_LONGITUDE, MAX_HEIGHT, DEGREE, WHOLE}
 use Rattle.run_script.specs.Words.{word}
 use Rattle.run_script.specs.Numbers.{whole_of, whole_within, degrees_within}

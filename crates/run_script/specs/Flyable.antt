@@ -1,10 +1,9 @@
 -- What each script of these forms states: no more than one link and the Navigator over plain missions.
-use Rattle.std.specs.Prelude.{◌≡◌, ℕ, ◌<◌, ◌≤◌, List, [], ◌∷◌, length, All, count_by, Option, None, ℤ, pos, neg_ℤ, ◌*ℤ◌, ◌≤ℤ◌, ⊤}
+use Rattle.std.specs.Prelude.{◌≡◌, ℕ, ◌<◌, ◌≤◌, List, [], ◌∷◌, length, All, count_by, None, ℤ, pos, neg_ℤ, ◌*ℤ◌, ◌≤ℤ◌, ⊤}
 use Rattle.mission_model.specs.declared.limits.TheConstants.{MAX_PLACES, MAX_PLANS, MAX_MISSION_ITEMS, MAX_SCHEDULE_LINES, MAX_UPLOAD_LINES, MAX_TURN_WORDS}
 use Rattle.mission_model.specs.declared.plan.Item.{Item}
 use Rattle.mission_model.specs.declared.plan.Param.{Param}
 use Rattle.mission_model.specs.declared.plan.Param.TheVariants.{Unset, Milli}
-use Rattle.mission_model.specs.declared.plan.PlanType.{PlanType}
 use Rattle.mission_model.specs.declared.plan.PlanType.TheVariants as kind
 use Rattle.mission_model.specs.declared.flight_line.Actor.{Actor}
 use Rattle.mission_model.specs.declared.flight_line.Actor.TheVariants.{Worker, Link, Nav, Watch}
@@ -18,7 +17,7 @@ use Rattle.mission_model.specs.declared.vehicle.VehicleLine.{VehicleLine}
 use Rattle.mission_model.specs.declared.vehicle.VehicleLine.TheVariants.{Tick, Go, Reached, Mode}
 use Rattle.run_script.specs.declared.bounds.TheConstants.{GLOBAL_FRAME, WAYPOINT, MAX_PARAM, MAX_LATITUDE, MAX_LONGITUDE, MAX_HEIGHT, DEGREE, WHOLE}
 use Rattle.run_script.specs.Inputs.{is_upload}
-use Rattle.run_script.specs.Places.{no_params, links_of}
+use Rattle.run_script.specs.Places.{no_params}
 
 -- a whole number up to a limit, in units
 abbrev pub IsUpTo : ℕ → ℤ → ℤ → Type 0

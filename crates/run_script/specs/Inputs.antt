@@ -1,6 +1,5 @@
 -- The lines behind `boot`: inputs and turns.
-use Rattle.std.specs.Prelude.{ℕ, ◌+◌, ◌-◌, List, [], ◌∷◌, ◌++◌, length, drop, Bool, true, false, not, ◌&&◌, ◌||◌, ◌==◌, nat_lt, nat_le, Option, Some, None, option_map, option_and_then, count_by, if◌then◌else◌, codes}
-use Rattle.std.specs.List.{list_any}
+use Rattle.std.specs.Prelude.{ℕ, ◌+◌, ◌-◌, List, [], ◌∷◌, ◌++◌, length, drop, Bool, true, false, not, ◌&&◌, ◌||◌, ◌==◌, nat_lt, nat_le, Option, Some, None, option_map, count_by, if◌then◌else◌, codes}
 use Rattle.mission_model.specs.declared.limits.TheConstants.{MAX_PLACES, MAX_SCHEDULE_LINES, MAX_UPLOAD_LINES, MAX_TURN_WORDS}
 use Rattle.mission_model.specs.declared.plan.Item.{Item}
 use Rattle.mission_model.specs.declared.plan.PlanType.TheVariants as kind

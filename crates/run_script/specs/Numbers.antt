@@ -1,5 +1,5 @@
 -- The numbers that words write.
-use Rattle.std.specs.Prelude.{ℕ, ◌+◌, ◌*◌, ◌*ℤ◌, List, length, drop, Bool, ◌&&◌, nat_le, Option, Some, None, option_map, option_and_then, is_some, ℤ, pos, neg_ℤ, if◌then◌else◌}
+use Rattle.std.specs.Prelude.{ℕ, ◌*ℤ◌, List, length, drop, Bool, ◌&&◌, nat_le, Option, Some, None, option_map, option_and_then, is_some, ℤ, pos, neg_ℤ, if◌then◌else◌}
 use Rattle.std.specs.Char.{is_ascii_digit}
 use Rattle.std.specs.List.{list_all}
 use Rattle.std.specs.Str.Parse.{digits_value, starts_with_minus}

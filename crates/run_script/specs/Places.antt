@@ -1,5 +1,5 @@
 -- The places among the lines of a script, and the place behind each line.
-use Rattle.std.specs.Prelude.{ℕ, List, [], ◌∷◌, ◌++◌, length, Bool, true, false, ◌&&◌, ◌||◌, ◌==◌, nat_lt, nat_le, Option, Some, None, option_map, option_and_then, is_none, ℤ, pos, if◌then◌else◌, codes}
+use Rattle.std.specs.Prelude.{ℕ, List, [], ◌∷◌, ◌++◌, length, Bool, true, false, ◌&&◌, ◌||◌, nat_lt, nat_le, Option, Some, None, option_map, option_and_then, is_none, pos, if◌then◌else◌, codes}
 use Rattle.std.specs.List.{list_all, list_any}
 use Rattle.mission_model.specs.declared.limits.TheConstants.{MAX_PLANS, MAX_MISSION_ITEMS, MAX_NAME_BYTES}
 use Rattle.mission_model.specs.declared.plan.Item.{Item}
@@ -9,7 +9,6 @@ use Rattle.mission_model.specs.declared.flight_line.Actor.{Actor}
 use Rattle.mission_model.specs.declared.flight_line.Actor.TheVariants.{Link}
 use Rattle.mission_model.specs.declared.schedule.InputLine.{InputLine}
 use Rattle.mission_model.specs.declared.schedule.NamedPlan.{NamedPlan}
-use Rattle.mission_model.specs.declared.schedule.BootScript.{BootScript}
 use Rattle.mission_model.specs.declared.schedule.Script.{Script}
 use Rattle.run_script.specs.declared.place.Place.{Place}
 use Rattle.run_script.specs.declared.place.Place.TheVariants.{Top, Head, Header, Rows, Boot}

@@ -1,5 +1,5 @@
 -- The rows of a plan's text.
-use Rattle.std.specs.Prelude.{ℕ, ◌*◌, ◌*ℤ◌, List, length, Bool, true, ◌&&◌, ◌==◌, Option, Some, None, option_map, option_and_then, ℤ, pos, if◌then◌else◌}
+use Rattle.std.specs.Prelude.{ℕ, ◌*ℤ◌, List, length, Bool, ◌&&◌, ◌==◌, Option, Some, None, option_map, option_and_then, ℤ, pos, if◌then◌else◌}
 use Rattle.run_script.specs.declared.bounds.TheConstants.{ROW_WORDS, GLOBAL_FRAME, WAYPOINT, MAX_PARAM, MAX_LATITUDE, MAX_LONGITUDE, MAX_HEIGHT, WHOLE}
 use Rattle.mission_model.specs.declared.plan.Item.{Item}
 use Rattle.mission_model.specs.declared.plan.Param.{Param}

@@ -113,7 +113,11 @@ fn nav_input(line: &[u8]) -> Option<InputLine>
 
 /// The input that a line states, and whose it is.
 #[tactic(auto, unfolding(crate::specs::Inputs::input_of))]
-pub(crate) fn input(alloc: Global, plans: &[NamedPlan], line: &[u8]) -> Result<(Actor, InputLine), ScriptFault>
+pub(crate) fn input(
+    alloc: Global,
+    plans: &[NamedPlan],
+    line: &[u8],
+) -> Result<(Actor, InputLine), ScriptFault>
     ensures { Reads result (input_of plans.now (words_of line.now)) }
 {
     if word(0, line) == b"link".as_slice() && is_within(0, 0, word(1, line)) {
@@ -138,7 +142,8 @@ pub(crate) fn has_room(inputs: &[(Actor, InputLine)], input: &(Actor, InputLine)
     ensures { result ≡ has_room inputs.now input.now }
 {
     inputs.len() < MAX_SCHEDULE_LINES
-        && (!is_upload(input) || inputs.iter().filter(|one| is_upload(one)).count() < MAX_UPLOAD_LINES)
+        && (!is_upload(input)
+            || inputs.iter().filter(|one| is_upload(one)).count() < MAX_UPLOAD_LINES)
 }
 
 #[tactic(auto, unfolding(crate::specs::Inputs::actor_of))]

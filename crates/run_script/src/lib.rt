@@ -16,6 +16,7 @@ mod words;
 
 pub use fault::ScriptFault;
 pub use mission_model::{
-    BootScript, Boots, CutSpec, InputLine, Inputs, Items, Name, NamedPlan, Plans, Script, TearKind, Turns,
+    BootScript, Boots, CutSpec, InputLine, Inputs, Items, Name, NamedPlan, Plans, Script, TearKind,
+    Turns,
 };
 pub use read::read_script;

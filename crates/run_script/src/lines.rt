@@ -19,9 +19,7 @@ fn line_len(text: &[u8]) -> usize
 
 /// The first line of a text, and what stands behind its line feed.
 pub(crate) fn next_line(text: &[u8]) -> Option<(&[u8], &[u8])>
-    ensures {
-        MatchOption result (lines_of text.now ≡ []) (λ parts. (lines_of text.now ≡ parts.0.now ∷ lines_of parts.1.now) × (length parts.1.now < length text.now))
-    }
+    ensures { MatchOption result (lines_of text.now ≡ []) (λ parts. (lines_of text.now ≡ parts.0.now ∷ lines_of parts.1.now) × (length parts.1.now < length text.now)) }
 {
     if text.is_empty() {
         return None;

@@ -12,7 +12,8 @@ use crate::row::row;
 use crate::words::{says, word};
 use mission_model::limits::{MAX_MISSION_ITEMS, MAX_NAME_BYTES, MAX_PLANS};
 use mission_model::{
-    Actor, BootScript, Boots, InputLine, Inputs, Items, Name, NamedPlan, Params, PlanType, Plans, Script, Turns,
+    Actor, BootScript, Boots, InputLine, Inputs, Items, Name, NamedPlan, Params, PlanType, Plans,
+    Script, Turns,
 };
 use std::alloc::Global;
 
@@ -22,9 +23,14 @@ pub enum Place {
     /// In front of the first line.
     Top,
     /// Among the plans of the head.
-    Head { plans: Plans },
+    Head {
+        plans: Plans,
+    },
     /// Behind a line `plan`, where the header of its text comes.
-    Header { plans: Plans, name: Name },
+    Header {
+        plans: Plans,
+        name: Name,
+    },
     /// Among the rows of a plan.
     Rows {
         plans: Plans,
@@ -107,7 +113,9 @@ fn after_rows(plans: Plans, name: Name, items: Items, line: &[u8]) -> Result<Pla
             kind: PlanType::Mission,
             items: Items::from_vec(rows),
         })?;
-        Ok(Place::Head { plans: Plans::from_vec(list) })
+        Ok(Place::Head {
+            plans: Plans::from_vec(list),
+        })
     } else if rows.len() < usize::from(MAX_MISSION_ITEMS) {
         let item = row(rows.len(), line).ok_or(ScriptFault::NotYet)?;
         rows.push(item)?;
@@ -122,12 +130,22 @@ fn after_rows(plans: Plans, name: Name, items: Items, line: &[u8]) -> Result<Pla
 }
 
 #[tactic(auto, unfolding(crate::specs::Places::after_boot))]
-fn after_boot(alloc: Global, plans: Plans, inputs: Inputs, turns: Turns, line: &[u8]) -> Result<Place, ScriptFault>
+fn after_boot(
+    alloc: Global,
+    plans: Plans,
+    inputs: Inputs,
+    turns: Turns,
+    line: &[u8],
+) -> Result<Place, ScriptFault>
     ensures { Reads result (after_boot plans inputs turns (words_of line.now)) }
 {
     if word(0, line) == b"turns".as_slice() {
         let turns = more_turns(alloc, turns, line)?;
-        return Ok(Place::Boot { plans, inputs, turns });
+        return Ok(Place::Boot {
+            plans,
+            inputs,
+            turns,
+        });
     }
     let input = input(alloc, plans.as_slice(), line)?;
     if !has_room(inputs.as_slice(), &input) {
@@ -164,7 +182,11 @@ fn have_link(turns: &[Actor]) -> bool
 fn links(inputs: &[(Actor, InputLine)], turns: &[Actor]) -> u8
     ensures { result ≡ links_of inputs.now turns.now }
 {
-    if have_link_input(inputs) || have_link(turns) { 1 } else { 0 }
+    if have_link_input(inputs) || have_link(turns) {
+        1
+    } else {
+        0
+    }
 }
 
 impl Place {
@@ -176,7 +198,9 @@ impl Place {
         match self {
             Place::Top => {
                 if says(line, b"px4 script 1") {
-                    Ok(Place::Head { plans: Plans::from_vec(Vec::new(alloc)) })
+                    Ok(Place::Head {
+                        plans: Plans::from_vec(Vec::new(alloc)),
+                    })
                 } else {
                     Err(ScriptFault::NotYet)
                 }
@@ -191,7 +215,11 @@ impl Place {
                 }
             },
             Place::Rows { plans, name, items } => after_rows(plans, name, items, line),
-            Place::Boot { plans, inputs, turns } => after_boot(alloc, plans, inputs, turns, line),
+            Place::Boot {
+                plans,
+                inputs,
+                turns,
+            } => after_boot(alloc, plans, inputs, turns, line),
         }
     }
 
@@ -200,7 +228,12 @@ impl Place {
     pub(crate) fn script(self, alloc: Global) -> Result<Script, ScriptFault>
         ensures { Reads result (script_at self) }
     {
-        let Place::Boot { plans, inputs, turns } = self else {
+        let Place::Boot {
+            plans,
+            inputs,
+            turns,
+        } = self
+        else {
             return Err(ScriptFault::NotYet);
         };
         let params = Params {

@@ -4,7 +4,9 @@ ghost use Rattle.std.specs.Prelude.{◌≡◌, ◌<◌, ◌≤◌};
 ghost use Rattle.run_script.specs.Words.{words_of};
 ghost use Rattle.run_script.specs.Rows.{starts_waypoint, param_of, height_of, waypoint_of, row_of};
 
-use crate::bounds::{GLOBAL_FRAME, MAX_HEIGHT, MAX_LATITUDE, MAX_LONGITUDE, MAX_PARAM, ROW_WORDS, WAYPOINT, WHOLE};
+use crate::bounds::{
+    GLOBAL_FRAME, MAX_HEIGHT, MAX_LATITUDE, MAX_LONGITUDE, MAX_PARAM, ROW_WORDS, WAYPOINT, WHOLE,
+};
 use crate::numbers::{degrees_within, is_within, whole_within};
 use crate::words::{count_words, word};
 use mission_model::{Item, Param};
@@ -15,7 +17,11 @@ fn starts_waypoint(place: usize, line: &[u8]) -> bool
 {
     is_within(place as u64, place as u64, word(0, line))
         && is_within(0, 1, word(1, line))
-        && is_within(u64::from(GLOBAL_FRAME), u64::from(GLOBAL_FRAME), word(2, line))
+        && is_within(
+            u64::from(GLOBAL_FRAME),
+            u64::from(GLOBAL_FRAME),
+            word(2, line),
+        )
         && is_within(u64::from(WAYPOINT), u64::from(WAYPOINT), word(3, line))
 }
 

@@ -26,7 +26,13 @@ fn waypoint(x: i32, y: i32, z: i32) -> Item {
 /// An input in few words.
 fn told(input: &(Actor, InputLine)) -> &'static str {
     match input {
-        (Actor::Link(0), InputLine::Upload { kind: PlanType::Mission, .. }) => "link upload",
+        (
+            Actor::Link(0),
+            InputLine::Upload {
+                kind: PlanType::Mission,
+                ..
+            },
+        ) => "link upload",
         (Actor::Link(0), InputLine::Meet { place: 0, count: 2 }) => "link meet",
         (Actor::Link(0), InputLine::Wait) => "link wait",
         (Actor::Nav, InputLine::Meet { place: 0, count: 2 }) => "nav meet",
@@ -50,7 +56,8 @@ fn uploaded(inputs: &[(Actor, InputLine)]) -> &[Item] {
 
 #[test]
 fn reads_an_upload_and_its_flight(rt: HostRuntime) {
-    let text = b"px4 script 1\nplan p mission\nQGC WPL 110\n0 1 0 16 0 0 0 0 47 8 10 1\n1 0 0 16 0 0 0 0 48 9 20 1\nend\nboot\nlink 0 upload p\nlink 0 meet 0 2\nnav meet 0 2\nnav mode mission\nnav go\nnav reached\nnav go\nnav tick\nnav mode hold\nnav wait\nlink 0 wait\nturns w l0 n w\n";
+    let text =
+        b"px4 script 1\nplan p mission\nQGC WPL 110\n0 1 0 16 0 0 0 0 47 8 10 1\n1 0 0 16 0 0 0 0 48 9 20 1\nend\nboot\nlink 0 upload p\nlink 0 meet 0 2\nnav meet 0 2\nnav mode mission\nnav go\nnav reached\nnav go\nnav tick\nnav mode hold\nnav wait\nlink 0 wait\nturns w l0 n w\n";
     match read_script(rt.alloc(), text) {
         Ok(script) => {
             assert_eq!(rt; script.boots.as_slice().len(), 1);
@@ -82,8 +89,18 @@ fn check_boot(rt: &impl Abort, boot: &BootScript) {
         assert_eq!(rt; told(input), want);
     }
     let items = uploaded(inputs);
-    assert!(rt; items == [waypoint(470_000_000, 80_000_000, 10_000), waypoint(480_000_000, 90_000_000, 20_000)].as_slice());
-    assert!(rt; boot.turns.as_slice() == [Actor::Worker, Actor::Link(0), Actor::Nav, Actor::Worker].as_slice());
+    assert!(rt;
+        items
+            == [
+                waypoint(470_000_000, 80_000_000, 10_000),
+                waypoint(480_000_000, 90_000_000, 20_000)
+            ]
+            .as_slice()
+    );
+    assert!(rt;
+        boot.turns.as_slice()
+            == [Actor::Worker, Actor::Link(0), Actor::Nav, Actor::Worker].as_slice()
+    );
     assert_eq!(rt; boot.links, 1);
 }
 
@@ -103,10 +120,15 @@ fn judged(alloc: Global, before: &str, after: &str) -> Result<u32, AllocError> {
 }
 
 const HEAD: &str = "px4 script 1\n";
+
 const HEADER: &str = "px4 script 1\nplan p mission\n";
+
 const ROWS: &str = "px4 script 1\nplan p mission\nQGC WPL 110\n";
+
 const CLOSED: &str = "px4 script 1\nplan p mission\nQGC WPL 110\n0 1 0 16 0 0 0 0 47 8 10 1\nend\n";
-const BOOT: &str = "px4 script 1\nplan p mission\nQGC WPL 110\n0 1 0 16 0 0 0 0 47 8 10 1\nend\nboot\n";
+
+const BOOT: &str =
+    "px4 script 1\nplan p mission\nQGC WPL 110\n0 1 0 16 0 0 0 0 47 8 10 1\nend\nboot\n";
 
 #[test]
 fn names_the_first_line_of_no_form(rt: HostRuntime) -> Result<(), AllocError> {
@@ -161,9 +183,15 @@ fn names_the_first_line_of_no_form(rt: HostRuntime) -> Result<(), AllocError> {
 fn takes_words_apart_at_any_blanks(rt: HostRuntime) -> Result<(), AllocError> {
     let rows = [
         ("px4\tscript  1 \n", "boot"),
-        (HEADER, " QGC WPL 110\n0 0 0 16 0000001000 0 0 0 -90 -180 1000 0\n end\nboot\n"),
+        (
+            HEADER,
+            " QGC WPL 110\n0 0 0 16 0000001000 0 0 0 -90 -180 1000 0\n end\nboot\n",
+        ),
         (BOOT, "link 00 upload p\n nav  go\t\nnav meet 15 255"),
-        (CLOSED, "plan q mission\nQGC WPL 110\n0 0 0 16 0 0 0 0 90 180 0 0\nend\nboot\nlink 0 upload q\n"),
+        (
+            CLOSED,
+            "plan q mission\nQGC WPL 110\n0 0 0 16 0 0 0 0 90 180 0 0\nend\nboot\nlink 0 upload q\n",
+        ),
     ];
     for (before, after) in rows {
         assert_eq!(rt; judged(rt.alloc(), before, after)?, 0, "{before}{after}");

@@ -38,9 +38,7 @@ fn word_len(text: &[u8]) -> usize
 
 /// The first word of a line, and what stands behind it.
 pub(crate) fn next_word(line: &[u8]) -> Option<(&[u8], &[u8])>
-    ensures {
-        MatchOption result (words_of line.now ≡ []) (λ parts. (words_of line.now ≡ parts.0.now ∷ words_of parts.1.now) × (length parts.1.now < length line.now))
-    }
+    ensures { MatchOption result (words_of line.now ≡ []) (λ parts. (words_of line.now ≡ parts.0.now ∷ words_of parts.1.now) × (length parts.1.now < length line.now)) }
 {
     let text = &line[blanks_len(line)..];
     if text.is_empty() {

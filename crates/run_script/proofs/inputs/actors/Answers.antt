@@ -1,9 +1,8 @@
-use Rattle.std.proofs.Common.{ℕ, rules, arith, ◌≡◌, ◌<◌, ◌≤◌, length, List, [], ◌∷◌, ◌++◌, refl, sym, ◌∙◌, ap, append-nil}
-use Rattle.std.proofs.lemmas.Grind.{common_steps}
-use Rattle.std.specs.Prelude.{Option, Some, None, Result}
+use Rattle.std.proofs.Common.{ℕ, ◌≡◌, List, [], ◌∷◌, ◌++◌, sym, ◌∙◌, ap, append-nil}
+use Rattle.std.specs.Prelude.{Some}
 use Rattle.mission_model.specs.declared.flight_line.Actor.{Actor}
 use Rattle.run_script.specs.Words.{words_of}
-use Rattle.run_script.specs.Inputs.{actor_of, actors_of}
+use Rattle.run_script.specs.Inputs.{actors_of}
 use Rattle.run_script.proofs.Actors.{behind, actors_of-more, actors_of-none, actors_of-empty}
 use Rattle.run_script.proofs.inputs.actors.Goals as goal
 

@@ -1,6 +1,5 @@
-use Rattle.std.proofs.Common.{arith, ◌≡◌, ◌<◌, ◌∷◌, [], length, MatchOption, ℕ, ◌+◌, ◌-◌, drop, take}
+use Rattle.std.proofs.Common.{arith, ◌≡◌, ◌<◌, [], length, ◌+◌, ◌-◌, drop, take}
 use Rattle.std.proofs.lemmas.Grind.{common_steps}
-use Rattle.run_script.specs.Lines.{lines_of}
 use Rattle.run_script.proofs.FirstLine.{lines_of-ended, lines_of-last, lines_of-none}
 use Rattle.run_script.proofs.lines.next_line.Goals as goal
 

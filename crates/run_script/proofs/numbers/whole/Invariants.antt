@@ -8,5 +8,5 @@ abbrev pub invariant-loop-byte : goal.invariant-loop-byte
 invariant-loop-byte l = record {
   digits : list_all is_ascii_digit (take l.byte-index l.word) ≡ true;
   value : l.value ≡ digits_value 10 (take l.byte-index l.word);
-  small : l.value < 10 ^ l.byte-index
+  small : l.value < 10 ^ l.byte-index;
 }

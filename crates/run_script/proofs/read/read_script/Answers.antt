@@ -1,11 +1,9 @@
-use Rattle.std.proofs.Common.{arith, ◌≤◌, length, ◌≡◌, ℕ, ◌+◌, List, [], ◌∷◌, refl, sym, ◌∙◌}
+use Rattle.std.proofs.Common.{arith, ◌+◌, refl, ◌∙◌}
 use Rattle.run_script.specs.Lines.{lines_of}
 use Rattle.run_script.specs.Scripts.{after_line, place_behind}
 use Rattle.run_script.specs.Places.{script_at}
-use Rattle.run_script.specs.declared.fault.ScriptFault.{ScriptFault}
-use Rattle.run_script.specs.declared.fault.ScriptFault.TheVariants.{NotYet, Memory}
 use Rattle.run_script.proofs.Reading.{fault_at, next_of, place_behind-next, stops_at, ends_at, reads_all}
-use Rattle.run_script.proofs.StatedRows.{row_of-some}
+use Rattle.run_script.proofs.StatedScripts.{FirstScript-flyable}
 use Rattle.run_script.proofs.read.read_script.Goals as goal
 
 pub loop-line-init : goal.loop-line-init
@@ -43,4 +41,4 @@ returns-in-Err-script-clause-read c =
     fault_at text (c.loop-line.number + 1) (script_at c.loop-line.place) c.in-Err-script.fault (ends_at text c.loop-line.number c.loop-line.place before.read (before.left ∙ c.in_default.ensures) before.counted) c.in-Err-script.ensures
 
 pub returns-in-Ok-script-clause-flyable : goal.returns-in-Ok-script-clause-flyable
-returns-in-Ok-script-clause-flyable c = ?
+returns-in-Ok-script-clause-flyable c = FirstScript-flyable c.args.bytes.now c.in-Ok-script.script (returns-in-Ok-script-clause-read c)

@@ -10,7 +10,7 @@ invariant-loop-line l = record {
   read : place_behind Top (take l.number (lines_of l.bytes)) ≡ Some l.place;
   left : drop l.number (lines_of l.bytes) ≡ lines_of l.rest;
   counted : l.number ≤ length (lines_of l.bytes);
-  short : l.number + length l.rest ≤ length l.bytes
+  short : l.number + length l.rest ≤ length l.bytes;
 }
 
 abbrev pub decreases-loop-line : goal.decreases-loop-line

@@ -1,4 +1,4 @@
-use Rattle.std.proofs.Common.{◌≤◌, arith, ◌≡◌, ◌<◌, ◌∷◌, [], length, MatchOption, ℕ, ◌+◌, ◌-◌, drop, take, ◌∙◌, ap, List, sym, refl}
+use Rattle.std.proofs.Common.{◌≤◌, arith, ◌≡◌, ◌<◌, [], length, ℕ, ◌-◌, drop, take, ◌∙◌, ap, List, sym}
 use Rattle.std.proofs.lemmas.Grind.{common_steps}
 use Rattle.run_script.specs.Words.{words_of}
 use Rattle.run_script.proofs.FirstWord.{words_of-cons, words_of-none, words_of-drop_blanks, rest-is}
