@@ -1,0 +1,3 @@
+pub mod BoardState
+pub mod BoardCalls
+pub mod Kept
