@@ -1,6 +1,5 @@
 -- What each call leaves of the board, for its own client and for the others.
-use Rattle.std.proofs.Common.{◌≡◌, ◌≢◌, ◌⊎◌, inl, inr, ℕ, ◌+◌, ◌<◌, ◌++◌, length, List, [], ◌∷◌, Option, Some, None, refl, ap, subst, sym, ◌∙◌, arith, get_or, set, get_or-set_same, get_or-set_other, length-set, length-append}
-use Rattle.std.proofs.Math.ListN.{replicate}
+use Rattle.std.proofs.Common.{◌≡◌, ◌≢◌, ◌⊎◌, inl, inr, ℕ, ◌+◌, ◌<◌, ◌++◌, length, List, [], ◌∷◌, Option, Some, None, refl, zero, suc, ap, subst, sym, ◌∙◌, arith, get_or, set, replicate, get_or-set_same, get_or-set_other, length-set, length-append}
 use Rattle.std.proofs.lemmas.List.{length-replicate, get_or-replicate}
 use Rattle.mission_model.specs.declared.plan.PlanHead.{PlanHead}
 use Rattle.mission_model.specs.declared.request.Client.{Client}
@@ -29,10 +28,16 @@ posted_other b (Watch n) Nav replies ne = refl
 posted_other b (Watch n) (Link m) replies ne = refl
 posted_other b (Watch n) (Watch m) replies ne = get_or-set_other b.watch_posted n m replies [] (λ e. ne (ap (λ k. Watch k) e))
 
-pub clients_with : (b : BoardState) (client : Client) (replies : List (Asked × Reply)) (other : Client) → IsAmong (length b.link_posted) (length b.watch_posted) other → IsAmong (length (with_posted b client replies).link_posted) (length (with_posted b client replies).watch_posted) other
-clients_with b Nav replies other has = has
-clients_with b (Link n) replies other has = subst (λ k. IsAmong k (length b.watch_posted) other) (sym (length-set b.link_posted n replies)) has
-clients_with b (Watch n) replies other has = subst (λ k. IsAmong (length b.link_posted) k other) (sym (length-set b.watch_posted n replies)) has
+-- the board has as many links and watchers as before
+pub lengths_with : (b : BoardState) (client : Client) (replies : List (Asked × Reply)) → (length (with_posted b client replies).link_posted ≡ length b.link_posted) × (length (with_posted b client replies).watch_posted ≡ length b.watch_posted)
+lengths_with b Nav replies = (refl, refl)
+lengths_with b (Link n) replies = (length-set b.link_posted n replies, refl)
+lengths_with b (Watch n) replies = (refl, length-set b.watch_posted n replies)
+
+clients_with : (b : BoardState) (client : Client) (replies : List (Asked × Reply)) → ClientsStay b (with_posted b client replies)
+clients_with b client replies other has =
+  let lengths = lengths_with b client replies in
+  rw lengths.0 (rw lengths.1 has)
 
 -- posted looks at the three lists of replies alone
 pub posted_alike : (b c : BoardState) (client : Client) → c.nav_posted ≡ b.nav_posted → c.link_posted ≡ b.link_posted → c.watch_posted ≡ b.watch_posted → posted c client ≡ posted b client
@@ -41,13 +46,18 @@ posted_alike b c (Link n) nav links watchers = ap (λ xs. get_or xs n []) links
 posted_alike b c (Watch n) nav links watchers = ap (λ xs. get_or xs n []) watchers
 
 -- a new board
+abbrev no_replies : List (Asked × Reply)
+no_replies = []
+
 pub opened_clients : (links watchers : ℕ) (heads : List PlanHead) (client : Client) → IsAmong links watchers client → HasClient (opened links watchers heads) client
 opened_clients links watchers heads Nav has = has
-opened_clients links watchers heads (Link n) has = omega (arith, length-replicate links ([] : List (Asked × Reply)), has)
-opened_clients links watchers heads (Watch n) has = omega (arith, length-replicate watchers ([] : List (Asked × Reply)), has)
+opened_clients links watchers heads (Link n) has = omega (arith, length-replicate links no_replies, has)
+opened_clients links watchers heads (Watch n) has = omega (arith, length-replicate watchers no_replies, has)
 
-none_posted : (n k : ℕ) → get_or (replicate n ([] : List (Asked × Reply))) k [] ≡ []
-none_posted n k = ?
+none_posted : (n k : ℕ) → get_or (replicate n no_replies) k no_replies ≡ []
+none_posted zero k = refl
+none_posted (suc n) zero = refl
+none_posted (suc n) (suc k) = none_posted n k
 
 pub opened_quiet : (links watchers : ℕ) (heads : List PlanHead) → IsQuiet (opened links watchers heads)
 opened_quiet links watchers heads Nav = (refl, refl)
@@ -87,13 +97,13 @@ answered_other b client asked reply other ne = answered_alike b client asked rep
 pub answered_clients : (b : BoardState) (client : Client) (asked : Asked) (reply : Reply) → ClientsStay b (answered b client asked reply)
 answered_clients b client asked reply other has = clients_with b client (posted b client ++ (asked, reply) ∷ []) other has
 
-with_waiting : (b : BoardState) (client : Client) (replies : List (Asked × Reply)) → ((with_posted b client replies).waiting ≡ b.waiting) × ((with_posted b client replies).service ≡ b.service)
+pub with_waiting : (b : BoardState) (client : Client) (replies : List (Asked × Reply)) → ((with_posted b client replies).waiting ≡ b.waiting) × ((with_posted b client replies).service ≡ b.service)
 with_waiting b Nav replies = (refl, refl)
 with_waiting b (Link n) replies = (refl, refl)
 with_waiting b (Watch n) replies = (refl, refl)
 
 -- who is served, from what is in service
-served : (service : Option (Client × Request)) (client : Client) (asked : Asked) → in_service service ≡ Some (client, asked) → (request : Request) × (service ≡ Some (client, request))
+pub served : (service : Option (Client × Request)) (client : Client) (asked : Asked) → in_service service ≡ Some (client, asked) → (request : Request) × (service ≡ Some (client, request))
 served None client asked is = absurd cc
 served (Some (other, request)) client asked is =
   let same : other ≡ client = cc in

@@ -1,6 +1,5 @@
 -- What each call makes of the board.
-use Rattle.std.specs.Prelude.{ℕ, List, [], ◌∷◌, ◌++◌, Option, Some, None, slice_set}
-use Rattle.std.proofs.Math.ListN.{replicate}
+use Rattle.std.specs.Prelude.{ℕ, List, [], ◌∷◌, ◌++◌, Option, Some, None, replicate, slice_set}
 use Rattle.mission_model.specs.declared.plan.PlanHead.{PlanHead}
 use Rattle.mission_model.specs.declared.plan.PlanType.{PlanType}
 use Rattle.mission_model.specs.declared.plan.PlanType.TheVariants.{Mission, Fence, Safe}

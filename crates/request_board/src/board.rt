@@ -1,9 +1,8 @@
 //! The board: one queue of requests, the one in service, and the replies of each client. All queues are made
 //! in `new` with room for all that the limits let in, so that no later call takes memory.
 
-ghost use Rattle.std.specs.Prelude.{◌≡◌, ℕ, ◌+◌, ◌<◌, ◌≤◌, [], ◌∷◌, ◌++◌, length, Some, None, IsErr, OnOk, OnErr, IfOk, IfNone, IfSome, ◌↔◌};
+ghost use Rattle.std.specs.Prelude.{◌≡◌, ℕ, ◌+◌, ◌<◌, ◌≤◌, [], ◌∷◌, ◌++◌, length, Some, None, replicate, IsErr, OnOk, OnErr, IfOk, IfNone, IfSome, ◌↔◌};
 ghost use Rattle.mission_model.specs.declared.limits.TheConstants.{MAX_LINKS, MAX_WATCHERS};
-ghost use Rattle.std.proofs.Math.ListN.{replicate};
 ghost use Rattle.mission_model.specs.declared.request.Client.{Client};
 ghost use Rattle.request_board.specs.BoardState.{HasClient, posted, outstanding, limit, asks_of, IsAmong, ClientsStay, PostedStays, OutstandingStays, OthersStay, IsQuiet};
 ghost use Rattle.request_board.specs.BoardCalls.{opened, asked, taken, answered, heard, index_kept, in_service, asked_of, place_of};
