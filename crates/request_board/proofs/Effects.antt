@@ -85,17 +85,17 @@ taken_counts b (client, request) rest idle waits other =
   omega (arith, before, none, ap length (taken_posted b (client, request) rest other))
 
 -- a reply that is posted
-pub answered_alike : (b : BoardState) (client : Client) (asked : Asked) (reply : Reply) (other : Client) → posted (answered b client asked reply) other ≡ posted (with_posted b client (posted b client ++ (asked, reply) ∷ [])) other
-answered_alike b client asked reply other = posted_alike (with_posted b client (posted b client ++ (asked, reply) ∷ [])) (answered b client asked reply) other refl refl refl
+pub answered_alike : (b : BoardState) (client : Client) (about : Asked) (reply : Reply) (other : Client) → posted (answered b client about reply) other ≡ posted (with_posted b client (posted b client ++ (about, reply) ∷ [])) other
+answered_alike b client about reply other = posted_alike (with_posted b client (posted b client ++ (about, reply) ∷ [])) (answered b client about reply) other refl refl refl
 
-pub answered_own : (b : BoardState) (client : Client) (asked : Asked) (reply : Reply) → HasClient b client → posted (answered b client asked reply) client ≡ posted b client ++ (asked, reply) ∷ []
-answered_own b client asked reply has = answered_alike b client asked reply client ∙ posted_own b client (posted b client ++ (asked, reply) ∷ []) has
+pub answered_own : (b : BoardState) (client : Client) (about : Asked) (reply : Reply) → HasClient b client → posted (answered b client about reply) client ≡ posted b client ++ (about, reply) ∷ []
+answered_own b client about reply has = answered_alike b client about reply client ∙ posted_own b client (posted b client ++ (about, reply) ∷ []) has
 
-pub answered_other : (b : BoardState) (client : Client) (asked : Asked) (reply : Reply) (other : Client) → other ≢ client → posted (answered b client asked reply) other ≡ posted b other
-answered_other b client asked reply other ne = answered_alike b client asked reply other ∙ posted_other b client other (posted b client ++ (asked, reply) ∷ []) ne
+pub answered_other : (b : BoardState) (client : Client) (about : Asked) (reply : Reply) (other : Client) → other ≢ client → posted (answered b client about reply) other ≡ posted b other
+answered_other b client about reply other ne = answered_alike b client about reply other ∙ posted_other b client other (posted b client ++ (about, reply) ∷ []) ne
 
-pub answered_clients : (b : BoardState) (client : Client) (asked : Asked) (reply : Reply) → ClientsStay b (answered b client asked reply)
-answered_clients b client asked reply other has = clients_with b client (posted b client ++ (asked, reply) ∷ []) other has
+pub answered_clients : (b : BoardState) (client : Client) (about : Asked) (reply : Reply) → ClientsStay b (answered b client about reply)
+answered_clients b client about reply other has = clients_with b client (posted b client ++ (about, reply) ∷ []) other has
 
 pub with_waiting : (b : BoardState) (client : Client) (replies : List (Asked × Reply)) → ((with_posted b client replies).waiting ≡ b.waiting) × ((with_posted b client replies).service ≡ b.service)
 with_waiting b Nav replies = (refl, refl)
@@ -103,36 +103,36 @@ with_waiting b (Link n) replies = (refl, refl)
 with_waiting b (Watch n) replies = (refl, refl)
 
 -- who is served, from what is in service
-pub served : (service : Option (Client × Request)) (client : Client) (asked : Asked) → in_service service ≡ Some (client, asked) → (request : Request) × (service ≡ Some (client, request))
-served None client asked is = absurd cc
-served (Some (other, request)) client asked is =
-  let same : other ≡ client = cc in
-  (request, ap (λ c. Some (c, request)) same)
+pub served : (service : Option (Client × Request)) (client : Client) (about : Asked) → in_service service ≡ Some (client, about) → (request : Request) × (service ≡ Some (client, request))
+served None client about is = absurd cc
+served (Some (other, request)) client about is =
+  let pair : ◌≡◌ {A = Client × Asked} (other, asked_of request) (client, about) = cc in
+  (request, ap (λ c. Some (c, request)) (ap (λ p. p.0) pair))
 
-pub serves_one : (service : Option (Client × Request)) (client : Client) (asked : Asked) → in_service service ≡ Some (client, asked) → serving client service ≡ 1
-serves_one service client asked is =
-  let found = served service client asked is in
+pub serves_one : (service : Option (Client × Request)) (client : Client) (about : Asked) → in_service service ≡ Some (client, about) → serving client service ≡ 1
+serves_one service client about is =
+  let found = served service client about is in
   ap (serving client) found.1 ∙ own_service client found.0
 
-pub serves_none : (service : Option (Client × Request)) (client : Client) (asked : Asked) (other : Client) → in_service service ≡ Some (client, asked) → other ≢ client → serving other service ≡ 0
-serves_none service client asked other is ne =
-  let found = served service client asked is in
+pub serves_none : (service : Option (Client × Request)) (client : Client) (about : Asked) (other : Client) → in_service service ≡ Some (client, about) → other ≢ client → serving other service ≡ 0
+serves_none service client about other is ne =
+  let found = served service client about is in
   ap (serving other) found.1 ∙ other_service other client found.0 ne
 
-pub answered_counts : (b : BoardState) (client : Client) (asked : Asked) (reply : Reply) → HasClient b client → in_service b.service ≡ Some (client, asked) → OutstandingStays b (answered b client asked reply)
-answered_counts b client asked reply has is other =
-  let waits : asks_of other (answered b client asked reply).waiting ≡ asks_of other b.waiting = ap (asks_of other) (with_waiting b client (posted b client ++ (asked, reply) ∷ [])).0 in
+pub answered_counts : (b : BoardState) (client : Client) (about : Asked) (reply : Reply) → HasClient b client → in_service b.service ≡ Some (client, about) → OutstandingStays b (answered b client about reply)
+answered_counts b client about reply has is other =
+  let waits : asks_of other (answered b client about reply).waiting ≡ asks_of other b.waiting = ap (asks_of other) (with_waiting b client (posted b client ++ (about, reply) ∷ [])).0 in
   elim (tell other client) [
     inl same ↦
-      let here : outstanding (answered b client asked reply) client ≡ outstanding b client =
-        let more : length (posted (answered b client asked reply) client) ≡ length (posted b client) + 1 = ap length (answered_own b client asked reply has) ∙ length-append (posted b client) ((asked, reply) ∷ []) in
-        omega (arith, more, serves_one b.service client asked is, ap (asks_of client) (with_waiting b client (posted b client ++ (asked, reply) ∷ [])).0) in
-      subst (λ c. outstanding (answered b client asked reply) c ≡ outstanding b c) (sym same.1) here
-  | inr apart ↦ omega (arith, waits, serves_none b.service client asked other is apart.1, ap length (answered_other b client asked reply other apart.1))
+      let here : outstanding (answered b client about reply) client ≡ outstanding b client =
+        let more : length (posted (answered b client about reply) client) ≡ length (posted b client) + 1 = ap length (answered_own b client about reply has) ∙ length-append (posted b client) ((about, reply) ∷ []) in
+        omega (arith, more, serves_one b.service client about is, ap (asks_of client) (with_waiting b client (posted b client ++ (about, reply) ∷ [])).0) in
+      subst (λ c. outstanding (answered b client about reply) c ≡ outstanding b c) (sym same.1) here
+  | inr apart ↦ omega (arith, waits, serves_none b.service client about other is apart.1, ap length (answered_other b client about reply other apart.1))
   ]
 
-pub answered_others : (b : BoardState) (client : Client) (asked : Asked) (reply : Reply) → HasClient b client → in_service b.service ≡ Some (client, asked) → OthersStay client b (answered b client asked reply)
-answered_others b client asked reply has is other ne = (answered_other b client asked reply other ne, answered_counts b client asked reply has is other)
+pub answered_others : (b : BoardState) (client : Client) (about : Asked) (reply : Reply) → HasClient b client → in_service b.service ≡ Some (client, about) → OthersStay client b (answered b client about reply)
+answered_others b client about reply has is other ne = (answered_other b client about reply other ne, answered_counts b client about reply has is other)
 
 -- a reply that is taken
 pub heard_clients : (b : BoardState) (client : Client) (rest : List (Asked × Reply)) → ClientsStay b (heard b client rest)
@@ -147,5 +147,5 @@ heard_others b client rest other ne = (posted_other b client other rest ne, omeg
 pub heard_own : (b : BoardState) (client : Client) (first : Asked × Reply) (rest : List (Asked × Reply)) → HasClient b client → posted b client ≡ first ∷ rest → outstanding (heard b client rest) client + 1 ≡ outstanding b client
 heard_own b client first rest has is =
   let now : length (posted (heard b client rest) client) ≡ length rest = ap length (posted_own b client rest has) in
-  let before : length (posted b client) ≡ length rest + 1 = ap length is in
+  let before : length (posted b client) ≡ length rest + 1 = ap length is ∙ omega arith in
   omega (arith, same_but_posted b client rest client, now, before)

@@ -1,5 +1,7 @@
 -- Each call leaves a sound board sound, and a sound board's queue has room.
 use Rattle.std.proofs.Common.{◌≡◌, ◌≢◌, ◌⊎◌, inl, inr, ℕ, ◌+◌, ◌*◌, ◌<◌, ◌≤◌, ◌++◌, length, List, [], ◌∷◌, Option, Some, None, refl, zero, suc, ap, subst, sym, ◌∙◌, arith, length-set}
+use Rattle.std.proofs.lemmas.Bool.{cases_eq}
+use Rattle.std.specs.Prelude.{slice_get, drop}
 use Rattle.mission_model.specs.declared.limits.TheConstants.{NAV_ROOM, LINK_ROOM, WATCH_ROOM}
 use Rattle.mission_model.specs.declared.plan.PlanHead.{PlanHead}
 use Rattle.mission_model.specs.declared.request.Client.{Client}
@@ -42,19 +44,19 @@ sound_taken b (client, request) rest sound idle waits =
     served = among.0;
   }
 
-pub served_has : (b : BoardState) (client : Client) (asked : Asked) → Sound b → in_service b.service ≡ Some (client, asked) → HasClient b client
-served_has b client asked sound is =
-  let found = served b.service client asked is in
+pub served_has : (b : BoardState) (client : Client) (about : Asked) → Sound b → in_service b.service ≡ Some (client, about) → HasClient b client
+served_has b client about sound is =
+  let found = served b.service client about is in
   subst (λ s. ServedAmong (length b.link_posted) (length b.watch_posted) s) found.1 sound.served
 
-pub sound_answered : (b : BoardState) (client : Client) (asked : Asked) (reply : Reply) → Sound b → in_service b.service ≡ Some (client, asked) → Sound (answered b client asked reply)
-sound_answered b client asked reply sound is =
-  let has = served_has b client asked sound is in
-  let replies : List (Asked × Reply) = posted b client ++ (asked, reply) ∷ [] in
+pub sound_answered : (b : BoardState) (client : Client) (about : Asked) (reply : Reply) → Sound b → in_service b.service ≡ Some (client, about) → Sound (answered b client about reply)
+sound_answered b client about reply sound is =
+  let has = served_has b client about sound is in
+  let replies : List (Asked × Reply) = posted b client ++ (about, reply) ∷ [] in
   let lengths = lengths_with b client replies in
   let waits = with_waiting b client replies in
   record {
-    within = λ other has_other. omega (arith, answered_counts b client asked reply has is other, sound.within other (rw (← lengths.0) (rw (← lengths.1) has_other)));
+    within = λ other has_other. omega (arith, answered_counts b client about reply has is other, sound.within other (rw (← lengths.0) (rw (← lengths.1) has_other)));
     waiting = rw waits.0 (rw lengths.0 (rw lengths.1 sound.waiting));
     served = tt;
   }
@@ -74,11 +76,59 @@ sound_heard b client first rest sound has is =
     served = rw waits.1 (rw lengths.0 (rw lengths.1 sound.served));
   }
 
--- how many of these requests are of one of the first links, and of one of the first watchers
-of_links : ℕ → List (Client × Request) → ℕ
-of_links zero asks = 0
-of_links (suc n) asks = asks_of (Link n) asks + of_links n asks
+-- a queue whose first is taken
+pub first_rest : {X : Type 0} (xs : List X) (first : X) → slice_get xs 0 ≡ Some first → xs ≡ first ∷ drop 1 xs
+first_rest [] first is = absurd cc
+first_rest (x ∷ xs) first is = ap (λ y. y ∷ xs) cc
 
-of_watchers : ℕ → List (Client × Request) → ℕ
-of_watchers zero asks = 0
-of_watchers (suc n) asks = asks_of (Watch n) asks + of_watchers n asks
+-- how many of these requests are of the first clients of a kind
+abbrev of_kind : (ℕ → Client) → ℕ → List (Client × Request) → ℕ
+of_kind kind zero asks = 0
+of_kind kind (suc n) asks = asks_of (kind n) asks + of_kind kind n asks
+
+-- a request of none of them
+of_kind_none : (kind : ℕ → Client) (n : ℕ) (client : Client) (request : Request) (asks : List (Client × Request)) → ((k : ℕ) → k < n → kind k ≢ client) → of_kind kind n ((client, request) ∷ asks) ≡ of_kind kind n asks
+of_kind_none kind zero client request asks ne = refl
+of_kind_none kind (suc n) client request asks ne = omega (arith, other_ask (kind n) client request asks (ne n (omega arith)), of_kind_none kind n client request asks (λ k lt. ne k (omega (arith, lt))))
+
+-- a request of one of them
+of_kind_one : (kind : ℕ → Client) → ((i j : ℕ) → kind i ≡ kind j → i ≡ j) → (n k : ℕ) (request : Request) (asks : List (Client × Request)) → k < n → of_kind kind n ((kind k, request) ∷ asks) ≡ of_kind kind n asks + 1
+of_kind_one kind single zero k request asks lt = absurd (omega (arith, lt))
+of_kind_one kind single (suc n) k request asks lt = elim (cases_eq k n) [
+    inl same ↦
+      let rest : of_kind kind n ((kind k, request) ∷ asks) ≡ of_kind kind n asks = of_kind_none kind n (kind k) request asks (λ j less e. omega (arith, less, same, single j k e)) in
+      let own : asks_of (kind n) ((kind k, request) ∷ asks) ≡ asks_of (kind n) asks + 1 = subst (λ j. asks_of (kind j) ((kind k, request) ∷ asks) ≡ asks_of (kind j) asks + 1) same (own_ask (kind k) request asks) in
+      omega (arith, rest, own)
+  | inr apart ↦ omega (arith, other_ask (kind n) (kind k) request asks (λ e. apart (sym (single n k e))), of_kind_one kind single n k request asks (omega (arith, lt, apart)))
+  ]
+
+-- each has at most so many
+of_kind_most : (kind : ℕ → Client) (most n : ℕ) (asks : List (Client × Request)) → ((k : ℕ) → k < n → asks_of (kind k) asks ≤ most) → of_kind kind n asks ≤ n * most
+of_kind_most kind most zero asks within = omega arith
+of_kind_most kind most (suc n) asks within = omega (arith, within n (omega arith), of_kind_most kind most n asks (λ k lt. within k (omega (arith, lt))))
+
+single_link : (i j : ℕ) → Link i ≡ Link j → i ≡ j
+single_link i j e = cc
+
+single_watch : (i j : ℕ) → Watch i ≡ Watch j → i ≡ j
+single_watch i j e = cc
+
+none_of : (kind : ℕ → Client) (n : ℕ) → of_kind kind n [] ≡ 0
+none_of kind zero = refl
+none_of kind (suc n) = omega (arith, none_of kind n)
+
+-- each request that waits is of one client
+all_counted : (links watchers : ℕ) (asks : List (Client × Request)) → AllAmong links watchers asks → length asks ≡ asks_of Nav asks + of_kind (λ k. Link k) links asks + of_kind (λ k. Watch k) watchers asks
+all_counted links watchers [] all = omega (arith, none_of (λ k. Link k) links, none_of (λ k. Watch k) watchers)
+all_counted links watchers ((Nav, request) ∷ asks) all = omega (arith, all_counted links watchers asks all.1,
+  of_kind_none (λ k. Link k) links Nav request asks (λ k lt e. cc), of_kind_none (λ k. Watch k) watchers Nav request asks (λ k lt e. cc))
+all_counted links watchers ((Link n, request) ∷ asks) all = omega (arith, all_counted links watchers asks all.1,
+  of_kind_one (λ k. Link k) single_link links n request asks all.0, of_kind_none (λ k. Watch k) watchers (Link n) request asks (λ k lt e. cc))
+all_counted links watchers ((Watch n, request) ∷ asks) all = omega (arith, all_counted links watchers asks all.1,
+  of_kind_none (λ k. Link k) links (Watch n) request asks (λ k lt e. cc), of_kind_one (λ k. Watch k) single_watch watchers n request asks all.0)
+
+-- no more requests wait than the limits let in
+pub waiting_fits : (b : BoardState) → Sound b → length b.waiting ≤ all_room (length b.link_posted) (length b.watch_posted)
+waiting_fits b sound = omega (arith, all_counted (length b.link_posted) (length b.watch_posted) b.waiting sound.waiting, sound.within Nav tt,
+  of_kind_most (λ k. Link k) LINK_ROOM (length b.link_posted) b.waiting (λ k lt. omega (arith, sound.within (Link k) lt)),
+  of_kind_most (λ k. Watch k) WATCH_ROOM (length b.watch_posted) b.waiting (λ k lt. omega (arith, sound.within (Watch k) lt)))

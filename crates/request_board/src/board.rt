@@ -5,7 +5,7 @@ ghost use Rattle.std.specs.Prelude.{◌≡◌, ℕ, ◌+◌, ◌<◌, ◌≤◌,
 ghost use Rattle.mission_model.specs.declared.limits.TheConstants.{MAX_LINKS, MAX_WATCHERS};
 ghost use Rattle.mission_model.specs.declared.request.Client.{Client};
 ghost use Rattle.request_board.specs.BoardState.{HasClient, posted, outstanding, limit, asks_of, IsAmong, ClientsStay, PostedStays, OutstandingStays, OthersStay, IsQuiet};
-ghost use Rattle.request_board.specs.BoardCalls.{opened, asked, taken, answered, heard, index_kept, in_service, asked_of, place_of};
+ghost use Rattle.request_board.specs.BoardCalls.{opened, asked, taken, answered, heard, index_kept, in_service, asked_of, place_of, heads_after};
 
 use crate::replies::Replies;
 use circular_buffer::HeapCircularBuffer;
@@ -127,9 +127,7 @@ impl Board {
         ensures clients { ClientsStay self.old self.new }
     {
         self.service = None;
-        if let (Asked::Commit { kind, id, count }, Reply::Done) = (asked, reply) {
-            self.heads[place_of(kind)] = PlanHead { id, count };
-        }
+        self.heads = heads_after(self.heads, asked, reply);
         match client {
             Client::Nav => self.nav.push(asked, reply),
             Client::Link(number) => self.links[number as usize].push(asked, reply),
@@ -218,6 +216,16 @@ fn place_of(kind: PlanType) -> usize
         PlanType::Fence => 1,
         PlanType::Safe => 2,
     }
+}
+
+/// The heads after a reply.
+fn heads_after(mut heads: [PlanHead; 3], asked: Asked, reply: Reply) -> [PlanHead; 3]
+    ensures { result ≡ heads_after heads asked reply }
+{
+    if let (Asked::Commit { kind, id, count }, Reply::Done) = (asked, reply) {
+        heads[place_of(kind)] = PlanHead { id, count };
+    }
+    heads
 }
 
 /// How many of the requests that wait are the client's.
