@@ -1,5 +1,5 @@
 -- Each call leaves a sound board sound, and a sound board's queue has room.
-use Rattle.std.proofs.Common.{◌≡◌, ◌≢◌, ◌⊎◌, inl, inr, ℕ, ◌+◌, ◌*◌, ◌<◌, ◌≤◌, ◌++◌, length, List, [], ◌∷◌, Option, Some, None, refl, zero, suc, ap, subst, sym, ◌∙◌, arith, length-set}
+use Rattle.std.proofs.Common.{◌≡◌, ◌≢◌, ◌⊎◌, inl, inr, ℕ, ◌+◌, ◌*◌, ◌<◌, ◌≤◌, ◌++◌, length, List, [], ◌∷◌, Option, Some, None, refl, zero, suc, ap, subst, sym, ◌∙◌, arith, length-set, length-append}
 use Rattle.std.proofs.lemmas.Bool.{cases_eq}
 use Rattle.std.specs.Prelude.{slice_get, drop}
 use Rattle.mission_model.specs.declared.limits.TheConstants.{NAV_ROOM, LINK_ROOM, WATCH_ROOM}
@@ -132,3 +132,11 @@ pub waiting_fits : (b : BoardState) → Sound b → length b.waiting ≤ all_roo
 waiting_fits b sound = omega (arith, all_counted (length b.link_posted) (length b.watch_posted) b.waiting sound.waiting, sound.within Nav tt,
   of_kind_most (λ k. Link k) LINK_ROOM (length b.link_posted) b.waiting (λ k lt. omega (arith, sound.within (Link k) lt)),
   of_kind_most (λ k. Watch k) WATCH_ROOM (length b.watch_posted) b.waiting (λ k lt. omega (arith, sound.within (Watch k) lt)))
+
+-- a client with room left may ask: the board is sound then, and its queue has a place
+pub room_left : (b : BoardState) (client : Client) (request : Request) (room : ℕ) → Sound b → HasClient b client → room + outstanding b client ≡ limit client → (room ≡ 0 → ⊥) → Sound (asked b client request) × (length b.waiting < all_room (length b.link_posted) (length b.watch_posted))
+room_left b client request room sound has is some =
+  let below : outstanding b client < limit client = grind (arith, is, some) in
+  let after : Sound (asked b client request) = sound_asked b client request sound has below in
+  let longer : length (b.waiting ++ (client, request) ∷ []) ≡ length b.waiting + 1 = length-append b.waiting ((client, request) ∷ []) in
+  (after, omega (arith, longer, waiting_fits (asked b client request) after))
