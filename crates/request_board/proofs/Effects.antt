@@ -45,6 +45,9 @@ posted_alike b c Nav nav links watchers = nav
 posted_alike b c (Link n) nav links watchers = ap (λ xs. get_or xs n []) links
 posted_alike b c (Watch n) nav links watchers = ap (λ xs. get_or xs n []) watchers
 
+pub index_posted : (b : BoardState) (index : Option (ℕ × ℕ)) (client : Client) → posted (record b { index = index }) client ≡ posted b client
+index_posted b index client = posted_alike b (record b { index = index }) client refl refl refl
+
 -- a new board
 abbrev no_replies : List (Asked × Reply)
 no_replies = []

@@ -1,3 +1,4 @@
 mod Clients
 mod Effects
 mod Sound
+mod Order

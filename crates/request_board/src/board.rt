@@ -1,11 +1,13 @@
 //! The board: one queue of requests, the one in service, and the replies of each client. All queues are made
 //! in `new` with room for all that the limits let in, so that no later call takes memory.
 
-ghost use Rattle.std.specs.Prelude.{◌≡◌, ℕ, ◌+◌, ◌<◌, ◌≤◌, [], ◌∷◌, ◌++◌, length, Some, None, replicate, IsErr, OnOk, OnErr, IfOk, IfNone, IfSome, ◌↔◌};
+ghost use Rattle.std.specs.Prelude.{◌≡◌, ℕ, List, ◌+◌, ◌<◌, ◌≤◌, [], ◌∷◌, ◌++◌, length, Some, None, replicate, IsErr, OnOk, OnErr, IfOk, IfNone, IfSome, ◌↔◌};
 ghost use Rattle.mission_model.specs.declared.limits.TheConstants.{MAX_LINKS, MAX_WATCHERS};
 ghost use Rattle.mission_model.specs.declared.request.Client.{Client};
-ghost use Rattle.request_board.specs.BoardState.{HasClient, posted, outstanding, limit, asks_of, IsAmong, ClientsStay, PostedStays, OutstandingStays, OthersStay, IsQuiet};
+ghost use Rattle.mission_model.specs.declared.plan.PlanHead.{PlanHead};
+ghost use Rattle.request_board.specs.BoardState.{BoardState, HasClient, posted, outstanding, limit, asks_of, IsAmong, ClientsStay, PostedStays, OutstandingStays, OthersStay, IsQuiet};
 ghost use Rattle.request_board.specs.BoardCalls.{opened, asked, taken, answered, heard, index_kept, in_service, asked_of, place_of, heads_after};
+ghost use Rattle.request_board.specs.BoardLaw.{Event, Posts, Keeps, Call, Calls, ask_event, take_event, reply_event, InOrder};
 
 use crate::replies::Replies;
 use circular_buffer::HeapCircularBuffer;
@@ -92,6 +94,7 @@ impl Board {
         ensures others { OthersStay client self.old self.new }
         ensures clients { ClientsStay self.old self.new }
         ensures err { OnErr result (self.new ≡ self.old) }
+        ensures call { Call self.old (ask_event client request result) self.new }
     {
         if self.room(client) == 0 {
             return Err(Full);
@@ -108,6 +111,7 @@ impl Board {
         ensures none { IfNone result ((self.old.waiting ≡ []) × (self.new ≡ self.old)) }
         ensures some { IfSome result (λ first. (self.old.waiting ≡ first ∷ self.new.waiting) × (self.new ≡ taken self.old first self.new.waiting)) }
         ensures client { IfSome result (λ first. HasClient self.old first.0) }
+        ensures call { Call self.old (take_event result) self.new }
         ensures posted { PostedStays self.old self.new }
         ensures counts { OutstandingStays self.old self.new }
         ensures clients { ClientsStay self.old self.new }
@@ -121,6 +125,7 @@ impl Board {
     pub fn post(&mut self, client: Client, asked: Asked, reply: Reply)
         requires { in_service self.old.service ≡ Some (client, asked) }
         ensures posts { self.new ≡ answered self.old client asked reply }
+        ensures call { Call self.old (Posts client asked reply) self.new }
         ensures own { posted self.new client ≡ posted self.old client ++ (asked, reply) ∷ [] }
         ensures others { OthersStay client self.old self.new }
         ensures counts { OutstandingStays self.old self.new }
@@ -140,6 +145,7 @@ impl Board {
         requires { HasClient self.old client }
         ensures none { IfNone result ((posted self.old client ≡ []) × (self.new ≡ self.old)) }
         ensures some { IfSome result (λ first. (posted self.old client ≡ first ∷ posted self.new client) × (self.new ≡ heard self.old client (posted self.new client))) }
+        ensures call { Call self.old (reply_event client result) self.new }
         ensures one_less { IfSome result (λ first. outstanding self.new client + 1 ≡ outstanding self.old client) }
         ensures others { OthersStay client self.old self.new }
         ensures clients { ClientsStay self.old self.new }
@@ -153,7 +159,8 @@ impl Board {
 
     /// Keeps the index that a link asked the Navigator to make current, in the place of an earlier one.
     pub fn ask_index(&mut self, id: u32, seq: u16)
-        ensures { self.new ≡ index_kept self.old id seq }
+        ensures keeps { self.new ≡ index_kept self.old id seq }
+        ensures call { Call self.old (Keeps (Some (id, seq))) self.new }
     {
         self.index = Some((id, seq));
     }
@@ -161,6 +168,7 @@ impl Board {
     /// Takes the kept index away.
     pub fn take_index(&mut self) -> Option<(u32, u16)>
         ensures kept { result ≡ self.old.index }
+        ensures call { Call self.old (Keeps None) self.new }
         ensures away { self.new ≡ record self.old { index = None } }
     {
         self.index.take()
@@ -183,6 +191,13 @@ impl Board {
         };
         (waiting_of(&self.waiting, client) + served + posted) as u8
     }
+}
+
+/// Whatever calls are made on a new board, and in whatever order: the first asked is the first taken, each client
+/// has its replies in the order of its requests, and no client is above its limit.
+pub fn requests_in_order()
+    ensures { (links watchers : ℕ) (heads : List PlanHead) (events : List Event) (last : BoardState) → length heads ≡ 3 → Calls (opened links watchers heads) events last → InOrder links watchers heads events last }
+{
 }
 
 /// A request without the item that it writes.
