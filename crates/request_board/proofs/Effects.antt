@@ -36,8 +36,8 @@ lengths_with b (Watch n) replies = (refl, length-set b.watch_posted n replies)
 
 clients_with : (b : BoardState) (client : Client) (replies : List (Asked × Reply)) → ClientsStay b (with_posted b client replies)
 clients_with b client replies other has =
-  let lengths = lengths_with b client replies in
-  rw lengths.0 (rw lengths.1 has)
+    let lengths = lengths_with b client replies in
+    rw lengths.0 (rw lengths.1 has)
 
 -- posted looks at the three lists of replies alone
 pub posted_alike : (b c : BoardState) (client : Client) → c.nav_posted ≡ b.nav_posted → c.link_posted ≡ b.link_posted → c.watch_posted ≡ b.watch_posted → posted c client ≡ posted b client
@@ -83,9 +83,9 @@ taken_posted b first rest other = posted_alike b (taken b first rest) other refl
 
 pub taken_counts : (b : BoardState) (first : Client × Request) (rest : List (Client × Request)) → b.service ≡ None → b.waiting ≡ first ∷ rest → OutstandingStays b (taken b first rest)
 taken_counts b (client, request) rest idle waits other =
-  let before : asks_of other b.waiting ≡ asks_of other ((client, request) ∷ rest) = ap (asks_of other) waits in
-  let none : serving other b.service ≡ 0 = ap (serving other) idle in
-  omega (arith, before, none, ap length (taken_posted b (client, request) rest other))
+    let before : asks_of other b.waiting ≡ asks_of other ((client, request) ∷ rest) = ap (asks_of other) waits in
+    let none : serving other b.service ≡ 0 = ap (serving other) idle in
+    omega (arith, before, none, ap length (taken_posted b (client, request) rest other))
 
 -- a reply that is posted
 pub answered_alike : (b : BoardState) (client : Client) (about : Asked) (reply : Reply) (other : Client) → posted (answered b client about reply) other ≡ posted (with_posted b client (posted b client ++ (about, reply) ∷ [])) other
@@ -109,30 +109,30 @@ with_waiting b (Watch n) replies = (refl, refl)
 pub served : (service : Option (Client × Request)) (client : Client) (about : Asked) → in_service service ≡ Some (client, about) → (request : Request) × (service ≡ Some (client, request))
 served None client about is = absurd cc
 served (Some (other, request)) client about is =
-  let pair : ◌≡◌ {A = Client × Asked} (other, asked_of request) (client, about) = cc in
-  (request, ap (λ c. Some (c, request)) (ap (λ p. p.0) pair))
+    let pair : ◌≡◌ {A = Client × Asked} (other, asked_of request) (client, about) = cc in
+    (request, ap (λ c. Some (c, request)) (ap (λ p. p.0) pair))
 
 pub serves_one : (service : Option (Client × Request)) (client : Client) (about : Asked) → in_service service ≡ Some (client, about) → serving client service ≡ 1
 serves_one service client about is =
-  let found = served service client about is in
-  ap (serving client) found.1 ∙ own_service client found.0
+    let found = served service client about is in
+    ap (serving client) found.1 ∙ own_service client found.0
 
 pub serves_none : (service : Option (Client × Request)) (client : Client) (about : Asked) (other : Client) → in_service service ≡ Some (client, about) → other ≢ client → serving other service ≡ 0
 serves_none service client about other is ne =
-  let found = served service client about is in
-  ap (serving other) found.1 ∙ other_service other client found.0 ne
+    let found = served service client about is in
+    ap (serving other) found.1 ∙ other_service other client found.0 ne
 
 pub answered_counts : (b : BoardState) (client : Client) (about : Asked) (reply : Reply) → HasClient b client → in_service b.service ≡ Some (client, about) → OutstandingStays b (answered b client about reply)
 answered_counts b client about reply has is other =
-  let waits : asks_of other (answered b client about reply).waiting ≡ asks_of other b.waiting = ap (asks_of other) (with_waiting b client (posted b client ++ (about, reply) ∷ [])).0 in
-  elim (tell other client) [
-    inl same ↦
-      let here : outstanding (answered b client about reply) client ≡ outstanding b client =
-        let more : length (posted (answered b client about reply) client) ≡ length (posted b client) + 1 = ap length (answered_own b client about reply has) ∙ length-append (posted b client) ((about, reply) ∷ []) in
-        omega (arith, more, serves_one b.service client about is, ap (asks_of client) (with_waiting b client (posted b client ++ (about, reply) ∷ [])).0) in
-      subst (λ c. outstanding (answered b client about reply) c ≡ outstanding b c) (sym same.1) here
-  | inr apart ↦ omega (arith, waits, serves_none b.service client about other is apart.1, ap length (answered_other b client about reply other apart.1))
-  ]
+    let waits : asks_of other (answered b client about reply).waiting ≡ asks_of other b.waiting = ap (asks_of other) (with_waiting b client (posted b client ++ (about, reply) ∷ [])).0 in
+    elim (tell other client) [
+      | inl same ↦
+          let here : outstanding (answered b client about reply) client ≡ outstanding b client =
+          let more : length (posted (answered b client about reply) client) ≡ length (posted b client) + 1 = ap length (answered_own b client about reply has) ∙ length-append (posted b client) ((about, reply) ∷ []) in
+          omega (arith, more, serves_one b.service client about is, ap (asks_of client) (with_waiting b client (posted b client ++ (about, reply) ∷ [])).0) in
+          subst (λ c. outstanding (answered b client about reply) c ≡ outstanding b c) (sym same.1) here
+      | inr apart ↦ omega (arith, waits, serves_none b.service client about other is apart.1, ap length (answered_other b client about reply other apart.1))
+    ]
 
 pub answered_others : (b : BoardState) (client : Client) (about : Asked) (reply : Reply) → HasClient b client → in_service b.service ≡ Some (client, about) → OthersStay client b (answered b client about reply)
 answered_others b client about reply has is other ne = (answered_other b client about reply other ne, answered_counts b client about reply has is other)
@@ -149,6 +149,6 @@ heard_others b client rest other ne = (posted_other b client other rest ne, omeg
 
 pub heard_own : (b : BoardState) (client : Client) (first : Asked × Reply) (rest : List (Asked × Reply)) → HasClient b client → posted b client ≡ first ∷ rest → outstanding (heard b client rest) client + 1 ≡ outstanding b client
 heard_own b client first rest has is =
-  let now : length (posted (heard b client rest) client) ≡ length rest = ap length (posted_own b client rest has) in
-  let before : length (posted b client) ≡ length rest + 1 = ap length is ∙ omega arith in
-  omega (arith, same_but_posted b client rest client, now, before)
+    let now : length (posted (heard b client rest) client) ≡ length rest = ap length (posted_own b client rest has) in
+    let before : length (posted b client) ≡ length rest + 1 = ap length is ∙ omega arith in
+    omega (arith, same_but_posted b client rest client, now, before)

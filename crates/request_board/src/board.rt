@@ -34,7 +34,7 @@ pub struct Board {
 
 impl Model for Board {
     ghost use Rattle.mission_model.specs.declared.request.Client.{Client};
-ghost use Rattle.request_board.specs.BoardState.{BoardState};
+    ghost use Rattle.request_board.specs.BoardState.{BoardState};
 
     ghost Value = { BoardState };
 
@@ -48,7 +48,12 @@ ghost use Rattle.request_board.specs.BoardState.{BoardState};
 impl Board {
     /// A board for the Navigator, so many links and so many watchers, with the heads of mission, fence and
     /// safe points that are in force.
-    pub fn new(alloc: Global, links: u8, watchers: u8, heads: [PlanHead; 3]) -> Result<Board, AllocError>
+    pub fn new(
+        alloc: Global,
+        links: u8,
+        watchers: u8,
+        heads: [PlanHead; 3],
+    ) -> Result<Board, AllocError>
         requires links { links ≤ MAX_LINKS }
         requires watchers { watchers ≤ MAX_WATCHERS }
         ensures opened { IfOk result (λ board. board ≡ opened links watchers heads) }
@@ -197,8 +202,7 @@ impl Board {
 /// has its replies in the order of its requests, and no client is above its limit.
 pub fn requests_in_order()
     ensures { (links watchers : ℕ) (heads : List PlanHead) (events : List Event) (last : BoardState) → length heads ≡ 3 → Calls (opened links watchers heads) events last → InOrder links watchers heads events last }
-{
-}
+{}
 
 /// A request without the item that it writes.
 pub fn asked_of(request: &Request) -> Asked

@@ -6,3 +6,6 @@ mod board;
 mod replies;
 
 pub use board::{Board, Full, asked_of};
+
+#[cfg(test)]
+mod tests;
