@@ -1,5 +1,5 @@
 -- Clients are told apart, and their requests are counted.
-use Rattle.std.proofs.Common.{◌≡◌, ◌≢◌, ◌⊎◌, inl, inr, ℕ, ◌+◌, ◌<◌, ◌≤◌, ◌++◌, ◌==◌, Bool, true, false, cond, length, List, [], ◌∷◌, Option, Some, None, refl, ap, subst, sym, ◌∙◌, arith}
+use Rattle.std.proofs.Common.{◌≡◌, ◌≢◌, ◌⊎◌, inl, inr, ◌+◌, ◌++◌, true, false, cond, List, [], ◌∷◌, Some, refl, ap, ◌∙◌, arith}
 use Rattle.std.proofs.lemmas.Bool.Decides.{eqb_tells}
 use Rattle.mission_model.specs.declared.request.Client.{Client}
 use Rattle.mission_model.specs.declared.request.Client.TheVariants.{Nav, Link, Watch}
@@ -42,8 +42,3 @@ own_service client request = ap (λ b. cond b 1 0) (own_test client)
 
 pub other_service : (other client : Client) (request : Request) → other ≢ client → serving other (Some (client, request)) ≡ 0
 other_service other client request ne = ap (λ b. cond b 1 0) (other_test other client ne)
-
--- no more requests are a client's than wait
-pub asks_of-length : (client : Client) (xs : List (Client × Request)) → asks_of client xs ≤ length xs
-asks_of-length client [] = omega arith
-asks_of-length client ((other, request) ∷ xs) = elim (tell client other) [ inl same ↦ omega (arith, asks_of-length client xs, ap (λ b. cond b 1 0 + asks_of client xs) same.0) | inr apart ↦ omega (arith, asks_of-length client xs, ap (λ b. cond b 1 0 + asks_of client xs) apart.0) ]

@@ -1,6 +1,6 @@
 -- What each call leaves of the board, for its own client and for the others.
-use Rattle.std.proofs.Common.{◌≡◌, ◌≢◌, ◌⊎◌, inl, inr, ℕ, ◌+◌, ◌<◌, ◌++◌, length, List, [], ◌∷◌, Option, Some, None, refl, zero, suc, ap, subst, sym, ◌∙◌, arith, get_or, set, replicate, get_or-set_same, get_or-set_other, length-set, length-append}
-use Rattle.std.proofs.lemmas.List.{length-replicate, get_or-replicate}
+use Rattle.std.proofs.Common.{◌≡◌, ◌≢◌, inl, inr, ℕ, ◌+◌, ◌++◌, length, List, [], ◌∷◌, Option, Some, None, refl, zero, suc, ap, subst, sym, ◌∙◌, arith, get_or, replicate, get_or-set_same, get_or-set_other, length-set, length-append}
+use Rattle.std.proofs.lemmas.List.{length-replicate}
 use Rattle.mission_model.specs.declared.plan.PlanHead.{PlanHead}
 use Rattle.mission_model.specs.declared.request.Client.{Client}
 use Rattle.mission_model.specs.declared.request.Client.TheVariants.{Nav, Link, Watch}

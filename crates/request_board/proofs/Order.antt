@@ -1,23 +1,22 @@
 -- The law of the board, by induction over its calls.
-use Rattle.std.proofs.Common.{◌≡◌, ◌≢◌, ◌⊎◌, inl, inr, ℕ, ◌+◌, ◌<◌, ◌≤◌, ◌==◌, ◌++◌, Bool, true, false, cond, length, List, [], ◌∷◌, Option, Some, None, refl, zero, suc, ap, subst, sym, ◌∙◌, arith, set, length-set, append_assoc, append-nil}
-use Rattle.std.specs.Prelude.{slice_get, if◌then◌else◌}
+use Rattle.std.proofs.Common.{◌≡◌, ◌≢◌, inl, inr, ℕ, ◌+◌, ◌<◌, ◌++◌, cond, length, List, [], ◌∷◌, Option, Some, refl, zero, suc, ap, subst, sym, ◌∙◌, arith, set, length-set, append_assoc, append-nil}
+use Rattle.std.specs.Prelude.{slice_get}
 use Rattle.std.proofs.lemmas.Bool.Decides.{eqb_tells}
 use Rattle.mission_model.specs.declared.plan.PlanHead.{PlanHead}
 use Rattle.mission_model.specs.declared.plan.PlanType.{PlanType}
 use Rattle.mission_model.specs.declared.plan.PlanType.TheVariants.{Mission, Fence, Safe}
 use Rattle.mission_model.specs.declared.request.Client.{Client}
 use Rattle.mission_model.specs.declared.request.Client.TheVariants.{Nav, Link, Watch}
-use Rattle.mission_model.specs.declared.request.Request.{Request}
 use Rattle.mission_model.specs.declared.request.Asked.{Asked}
 use Rattle.mission_model.specs.declared.request.Asked.TheVariants as about
 use Rattle.mission_model.specs.declared.request.Reply.{Reply}
 use Rattle.mission_model.specs.declared.request.Reply.TheVariants as reply
-use Rattle.request_board.specs.BoardState.{BoardState, IsAmong, HasClient, posted, with_posted, ClientsStay, same_client, outstanding, limit}
-use Rattle.request_board.specs.BoardCalls.{asked_of, in_service, place_of, opened, asked, taken, heads_after, answered, heard}
+use Rattle.request_board.specs.BoardState.{BoardState, HasClient, posted, with_posted, ClientsStay, same_client, outstanding}
+use Rattle.request_board.specs.BoardCalls.{asked_of, in_service, place_of, opened, asked, heads_after, answered, heard}
 use Rattle.request_board.specs.BoardLaw.{Event, Asks, Takes, Posts, Hears, Keeps, Stays, Call, Calls, all_asked, all_taken, all_served, all_posted, all_heard, abouts, own_abouts, replied, listed, head_after, head_by, InOrder}
 use Rattle.request_board.specs.Kept.{Sound}
 use Rattle.request_board.proofs.Clients.{tell, own_test, other_test}
-use Rattle.request_board.proofs.Effects.{opened_clients, opened_quiet, posted_own, posted_other, asked_posted, asked_own, asked_others, taken_posted, taken_counts, answered_own, answered_other, answered_clients, answered_counts, heard_clients, heard_own, heard_others, with_waiting, index_posted}
+use Rattle.request_board.proofs.Effects.{opened_clients, opened_quiet, posted_other, asked_posted, asked_own, asked_others, taken_posted, taken_counts, answered_own, answered_other, answered_clients, answered_counts, heard_clients, heard_own, heard_others, with_waiting, index_posted}
 use Rattle.request_board.proofs.Sound.{sound_opened, sound_asked, sound_taken, sound_answered, sound_heard, served_has}
 
 -- another index changes no client's part of the board

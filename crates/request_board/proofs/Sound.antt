@@ -1,18 +1,18 @@
 -- Each call leaves a sound board sound, and a sound board's queue has room.
-use Rattle.std.proofs.Common.{◌≡◌, ◌≢◌, ◌⊎◌, inl, inr, ℕ, ◌+◌, ◌*◌, ◌<◌, ◌≤◌, ◌++◌, length, List, [], ◌∷◌, Option, Some, None, refl, zero, suc, ap, subst, sym, ◌∙◌, arith, length-set, length-append}
+use Rattle.std.proofs.Common.{◌≡◌, ◌≢◌, inl, inr, ℕ, ◌+◌, ◌*◌, ◌<◌, ◌≤◌, ◌++◌, length, List, [], ◌∷◌, Some, None, refl, zero, suc, ap, subst, sym, arith, length-append}
 use Rattle.std.proofs.lemmas.Bool.{cases_eq}
 use Rattle.std.specs.Prelude.{slice_get, drop}
-use Rattle.mission_model.specs.declared.limits.TheConstants.{NAV_ROOM, LINK_ROOM, WATCH_ROOM}
+use Rattle.mission_model.specs.declared.limits.TheConstants.{LINK_ROOM, WATCH_ROOM}
 use Rattle.mission_model.specs.declared.plan.PlanHead.{PlanHead}
 use Rattle.mission_model.specs.declared.request.Client.{Client}
 use Rattle.mission_model.specs.declared.request.Client.TheVariants.{Nav, Link, Watch}
 use Rattle.mission_model.specs.declared.request.Request.{Request}
 use Rattle.mission_model.specs.declared.request.Asked.{Asked}
 use Rattle.mission_model.specs.declared.request.Reply.{Reply}
-use Rattle.request_board.specs.BoardState.{BoardState, IsAmong, HasClient, posted, with_posted, asks_of, serving, outstanding, limit}
+use Rattle.request_board.specs.BoardState.{BoardState, IsAmong, HasClient, posted, asks_of, outstanding, limit}
 use Rattle.request_board.specs.BoardCalls.{in_service, opened, asked, taken, answered, heard}
 use Rattle.request_board.specs.Kept.{AllAmong, ServedAmong, Sound, all_room}
-use Rattle.request_board.proofs.Clients.{tell, asks_of-append, own_ask, other_ask}
+use Rattle.request_board.proofs.Clients.{tell, own_ask, other_ask}
 use Rattle.request_board.proofs.Effects.{asked_own, asked_others, taken_counts, answered_counts, heard_own, heard_others, opened_quiet, with_waiting, lengths_with, served}
 
 all_among-append : (links watchers : ℕ) (asks : List (Client × Request)) (client : Client) (request : Request) → AllAmong links watchers asks → IsAmong links watchers client → AllAmong links watchers (asks ++ (client, request) ∷ [])

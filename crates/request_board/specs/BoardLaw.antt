@@ -10,7 +10,7 @@ use Rattle.mission_model.specs.declared.request.Reply.{Reply}
 use Rattle.mission_model.specs.declared.request.Reply.TheVariants.{Done}
 use Rattle.request_board.specs.declared.board.Full.{Full}
 use Rattle.request_board.specs.BoardState.{BoardState, IsAmong, HasClient, posted, same_client, outstanding, limit}
-use Rattle.request_board.specs.BoardCalls.{asked_of, in_service, place_of, opened, asked, taken, answered, heard}
+use Rattle.request_board.specs.BoardCalls.{asked_of, in_service, place_of, asked, taken, answered, heard}
 
 -- what a call does: a client's request is let in; the worker takes a client's request; it posts a reply to a client; a
 -- client takes a reply; another index is kept, or none; nothing

@@ -1,11 +1,10 @@
 -- Below the limit the queue has a place, and the request waits behind all others.
-use Rattle.std.proofs.Common.{◌≡◌, ◌∙◌, ◌+◌, ◌<◌, ◌≤◌, ◌++◌, List, [], ◌∷◌, length, ap, sym, subst, arith}
+use Rattle.std.proofs.Common.{◌≡◌, ◌∙◌, ◌+◌, ◌<◌, ◌++◌, [], ◌∷◌, length, ap, sym, subst, arith}
 use Rattle.std.proofs.lemmas.Grind.{common_steps}
 use Rattle.circular_buffer.specs.Buffer.{Buffer, buffer}
 use Rattle.mission_model.specs.declared.request.Client.{Client}
 use Rattle.mission_model.specs.declared.request.Request.{Request}
 use Rattle.request_board.specs.BoardState.{BoardState, outstanding, limit, HasClient, OthersStay}
-use Rattle.request_board.specs.BoardCalls.{asked}
 use Rattle.request_board.specs.Kept.{view_of, Sound}
 use Rattle.request_board.proofs.Effects.{asked_own, asked_others}
 use Rattle.request_board.proofs.Sound.{room_left}

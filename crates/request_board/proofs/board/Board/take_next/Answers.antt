@@ -4,9 +4,8 @@ use Rattle.circular_buffer.specs.Buffer.{Buffer, buffer}
 use Rattle.mission_model.specs.declared.request.Client.{Client}
 use Rattle.mission_model.specs.declared.request.Request.{Request}
 use Rattle.request_board.proofs.Sound.{sound_taken, first_rest}
-use Rattle.request_board.specs.Kept.{view_of, Sound}
+use Rattle.request_board.specs.Kept.{view_of}
 use Rattle.request_board.specs.BoardState.{BoardState}
-use Rattle.request_board.specs.BoardCalls.{taken}
 use Rattle.request_board.proofs.board.Board.take_next.Goals as goal
 
 pub invariant_of-self-2 : goal.invariant_of-self-2
