@@ -68,7 +68,10 @@ impl Counts {
     {
         let mut pairs = self.pairs;
         let len = put_in(&mut pairs, self.len as usize, seq, used);
-        *self = Counts { len: len as u8, pairs };
+        *self = Counts {
+            len: len as u8,
+            pairs,
+        };
     }
 }
 
@@ -140,6 +143,9 @@ fn place_in(pairs: &[(u16, u16)], seq: u16) -> Result<usize, usize>
     Err(at)
 }
 
+/// The used number of a jump without a pair.
+const NOT_TAKEN: u16 = 0;
+
 /// The used number of a seq among pairs.
 fn used_in(pairs: &[(u16, u16)], seq: u16) -> u16
     ensures { result ≡ used_of pairs.now seq }
@@ -149,7 +155,7 @@ fn used_in(pairs: &[(u16, u16)], seq: u16) -> u16
             return pair.1;
         }
     }
-    0
+    NOT_TAKEN
 }
 
 /// The place in a mission that a restart resumes: the mission's id, the index and the counts of its jumps.
@@ -158,4 +164,38 @@ pub struct Mark {
     pub id: u32,
     pub index: u16,
     pub counts: Counts,
+}
+
+#[cfg(test)]
+mod tests {
+    use super::*;
+
+    #[test]
+    fn counts_keep_their_pairs_in_order(rt: HostRuntime) {
+        let mut counts = Counts::new();
+        assert_eq!(rt; counts.len(), 0);
+        assert_eq!(rt; counts.used(7), 0);
+        // The seqs 0, 7, 14, .. 105 in a mixed order fill the sixteen places.
+        for k in 0..MAX_JUMPS as u16 {
+            let seq = k * 5 % 16 * 7;
+            if counts.used(seq) == 0 && (counts.len() as usize) < MAX_JUMPS {
+                counts.put(seq, k + 1);
+            }
+        }
+        assert_eq!(rt; counts.len(), 16);
+        let rows = [
+            (0, 0, 1),
+            (1, 7, 14),
+            (2, 14, 11),
+            (3, 21, 8),
+            (5, 35, 2),
+            (15, 105, 4),
+        ];
+        for (place, seq, used) in rows {
+            if place < counts.len() {
+                assert_eq!(rt; counts.pair(place), (seq, used), "at {place}");
+            }
+            assert_eq!(rt; counts.used(seq), used, "of {seq}");
+        }
+    }
 }

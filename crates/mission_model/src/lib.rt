@@ -18,7 +18,9 @@ pub use flight_line::{Actor, Line};
 pub use message::{AckCode, Answer, Message, Said};
 pub use plan::{Home, Item, Param, Params, PlanHead, PlanType};
 pub use request::{Asked, Client, Reply, Request};
-pub use same::{is_same_asked, is_same_head, is_same_item, is_same_mark, is_same_param, is_same_reply};
+pub use same::{
+    is_same_asked, is_same_head, is_same_item, is_same_mark, is_same_param, is_same_reply,
+};
 pub use schedule::{
     BootScript, Boots, CutSpec, InputLine, Inputs, Items, Name, NamedPlan, Plans, Script, TearKind,
     Turns,

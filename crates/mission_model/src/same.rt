@@ -62,15 +62,41 @@ pub fn is_same_asked(left: &Asked, right: &Asked) -> bool
     ensures { IsTrue result ↔ (left.now ≡ right.now) }
 {
     match (*left, *right) {
-        (Asked::Read { kind: a, id: b, seq: c }, Asked::Read { kind: d, id: e, seq: f }) => {
-            a == d && b == e && c == f
-        }
-        (Asked::Write { kind: a, id: b, seq: c }, Asked::Write { kind: d, id: e, seq: f }) => {
-            a == d && b == e && c == f
-        }
         (
-            Asked::Commit { kind: a, id: b, count: c },
-            Asked::Commit { kind: d, id: e, count: f },
+            Asked::Read {
+                kind: a,
+                id: b,
+                seq: c,
+            },
+            Asked::Read {
+                kind: d,
+                id: e,
+                seq: f,
+            },
+        ) => { a == d && b == e && c == f }
+        (
+            Asked::Write {
+                kind: a,
+                id: b,
+                seq: c,
+            },
+            Asked::Write {
+                kind: d,
+                id: e,
+                seq: f,
+            },
+        ) => { a == d && b == e && c == f }
+        (
+            Asked::Commit {
+                kind: a,
+                id: b,
+                count: c,
+            },
+            Asked::Commit {
+                kind: d,
+                id: e,
+                count: f,
+            },
         ) => a == d && b == e && c == f,
         (Asked::SetMark(a), Asked::SetMark(b)) => is_same_mark(&a, &b),
         _ => false,
