@@ -81,18 +81,19 @@ impl Source for MemorySource {
             self.faults = self.faults.saturating_add(1);
             return Err(Failed);
         }
-        let left = &self.bytes[self.at..];
-        let count = MOST_AT_ONCE.min(buf.len()).min(left.len());
-        copy_front(buf, &left[..count]);
+        let count = copy_front(buf, &self.bytes[self.at..]);
         self.at += count;
         Ok(count)
     }
 }
 
-// Writes the bytes over the front of the buffer.
-fn copy_front(buf: &mut [u8], bytes: &[u8])
-    requires { length bytes.now ≤ length buf.old }
-    ensures { buf.new ≡ bytes.now ++ drop (length bytes.now) buf.old }
+// Copies as many bytes as one call moves to the front of the buffer, and says how many.
+fn copy_front(buf: &mut [u8], bytes: &[u8]) -> usize
+    ensures count { result ≡ min (min MOST_AT_ONCE (length buf.old)) (length bytes.now) }
+    ensures moved { buf.new ≡ take result bytes.now ++ drop result buf.old }
+    ensures front { take result buf.new ≡ take result bytes.now }
 {
-    buf[..bytes.len()].copy_from_slice(bytes);
+    let count = MOST_AT_ONCE.min(buf.len()).min(bytes.len());
+    buf[..count].copy_from_slice(&bytes[..count]);
+    count
 }

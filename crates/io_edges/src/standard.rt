@@ -67,8 +67,10 @@ impl StdSink {
         }
     }
 
+    // Counts a fault.
     fn fault(&mut self) -> Failed
-        ensures { Rose self.old.faults self.new.faults }
+        ensures never_falls { self.old.faults ≤ self.new.faults }
+        ensures rose { Rose self.old.faults self.new.faults }
     {
         self.faults = self.faults.saturating_add(1);
         Failed
