@@ -2,6 +2,10 @@
 use Rattle.std.specs.Prelude.{◌≡◌, ◌⊎◌, ℕ, ◌<◌, List, ◌++◌, length, take, drop, Contains}
 use Rattle.io_edges.specs.Count.{next_count}
 
+-- the most bytes that one call moves
+abbrev pub most_at_once : ℕ
+most_at_once = 4096
+
 -- the bytes left, the numbers of the calls that fail, and how many calls were made and failed
 pub record SourceState : Type 0 where
   pub left : List ℕ

@@ -6,6 +6,8 @@ mod edges;
 mod memory_sink;
 mod memory_source;
 mod standard;
+#[cfg(test)]
+mod tests;
 mod whole;
 
 pub use edges::{Failed, MOST_AT_ONCE, Sink, Source};

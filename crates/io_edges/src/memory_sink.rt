@@ -4,7 +4,7 @@ ghost use Rattle.std.specs.Prelude.{◌≡◌, ◌-◌, ◌<◌, ◌≤◌, ◌�
 ghost use Rattle.std.specs.Io.{WritesAtMost};
 ghost use Rattle.std.specs.Io.KnownBytes.{WriteAppends};
 ghost use Rattle.io_edges.specs.Count.{Rose};
-ghost use Rattle.io_edges.specs.Memory.{GiveFails, after_give, after_failed_give};
+ghost use Rattle.io_edges.specs.Memory.{GiveFails, after_give, after_failed_give, most_at_once};
 
 use crate::edges::{Failed, MOST_AT_ONCE, Sink};
 use std::alloc::{AllocError, Global};
@@ -26,9 +26,7 @@ impl Model for MemorySink {
 
     ghost Value = { SinkState };
 
-    ghost view = {
-        λ s. record { held = s.held.items; room = s.room; fails = s.fails.items; calls = s.calls; faults = s.faults }
-    };
+    ghost view = { λ s. record { held = s.held.items; room = s.room; fails = s.fails.items; calls = s.calls; faults = s.faults } };
 
     ghost invariant = { λ s. (vec_len s.held ≤ s.room) × (s.room ≤ vec_capacity s.held) };
 }
@@ -36,9 +34,7 @@ impl Model for MemorySink {
 impl MemorySink {
     /// A sink with room for that many bytes. Its calls are numbered from 1, and those that `fails` has fail.
     pub fn new(alloc: Global, room: usize, fails: Vec<u64>) -> Result<MemorySink, AllocError>
-        ensures {
-            IfOk result (λ s. s ≡ record { held = []; room = room; fails = fails.items; calls = 0; faults = 0 })
-        }
+        ensures { IfOk result (λ s. s ≡ record { held = []; room = room; fails = fails.items; calls = 0; faults = 0 }) }
     {
         let held = Vec::with_capacity(alloc, room)?;
         Ok(MemorySink {
@@ -92,12 +88,8 @@ impl Sink for MemorySink {
         ensures failed { OnErr result (Rose self.old.faults self.new.faults) }
         ensures stuck { 0 < length bytes.now → IfOk result (λ n. n ≡ 0 → Rose self.old.faults self.new.faults) }
         ensures fails { IsErr result ↔ GiveFails self.old bytes.now }
-        ensures count {
-            IfOk result (λ n. n ≡ min (min MOST_AT_ONCE (length bytes.now)) (self.old.room - length self.old.held))
-        }
-        ensures state {
-            MatchResult result (λ n. self.new ≡ after_give self.old (take n bytes.now)) (λ _. self.new ≡ after_failed_give self.old)
-        }
+        ensures count { IfOk result (λ n. n ≡ min (min most_at_once (length bytes.now)) (self.old.room - length self.old.held)) }
+        ensures state { MatchResult result (λ n. self.new ≡ after_give self.old (take n bytes.now)) (λ _. self.new ≡ after_failed_give self.old) }
     {
         self.calls = self.calls.saturating_add(1);
         let room = self.room - self.held.len();

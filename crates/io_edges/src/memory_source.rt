@@ -4,7 +4,7 @@ ghost use Rattle.std.specs.Prelude.{◌≡◌, ◌≤◌, ◌↔◌, ◌++◌, S
 ghost use Rattle.std.specs.Io.{ReadsAtMost};
 ghost use Rattle.std.specs.Io.KnownBytes.{ReadConsumes};
 ghost use Rattle.io_edges.specs.Count.{next_count, Rose};
-ghost use Rattle.io_edges.specs.Memory.{after_take, after_failed_take};
+ghost use Rattle.io_edges.specs.Memory.{after_take, after_failed_take, most_at_once};
 
 use crate::edges::{Failed, MOST_AT_ONCE, Source};
 use std::marker::Model;
@@ -25,9 +25,7 @@ impl Model for MemorySource {
 
     ghost Value = { SourceState };
 
-    ghost view = {
-        λ s. record { left = drop s.at s.bytes.items; fails = s.fails.items; calls = s.calls; faults = s.faults }
-    };
+    ghost view = { λ s. record { left = drop s.at s.bytes.items; fails = s.fails.items; calls = s.calls; faults = s.faults } };
 
     ghost invariant = { λ s. s.at ≤ vec_len s.bytes };
 }
@@ -44,6 +42,13 @@ impl MemorySource {
             calls: 0,
             faults: 0,
         }
+    }
+
+    /// The bytes that were not taken yet.
+    pub fn left(&self) -> &[u8]
+        ensures { result.now ≡ self.now.left }
+    {
+        &self.bytes[self.at..]
     }
 
     /// How many calls were made.
@@ -72,7 +77,7 @@ impl Source for MemorySource {
         ensures never_falls { self.old.faults ≤ self.new.faults }
         ensures failed { OnErr result (Rose self.old.faults self.new.faults) }
         ensures fails { IsErr result ↔ Contains self.old.fails (next_count self.old.calls) }
-        ensures count { IfOk result (λ n. n ≡ min (min MOST_AT_ONCE (length buf.old)) (length self.old.left)) }
+        ensures count { IfOk result (λ n. n ≡ min (min most_at_once (length buf.old)) (length self.old.left)) }
         ensures moved { MatchResult result (λ n. buf.new ≡ take n self.old.left ++ drop n buf.old) (λ _. buf.new ≡ buf.old) }
         ensures state { MatchResult result (λ n. self.new ≡ after_take self.old n) (λ _. self.new ≡ after_failed_take self.old) }
     {
@@ -89,7 +94,7 @@ impl Source for MemorySource {
 
 // Copies as many bytes as one call moves to the front of the buffer, and says how many.
 fn copy_front(buf: &mut [u8], bytes: &[u8]) -> usize
-    ensures count { result ≡ min (min MOST_AT_ONCE (length buf.old)) (length bytes.now) }
+    ensures count { result ≡ min (min most_at_once (length buf.old)) (length bytes.now) }
     ensures moved { buf.new ≡ take result bytes.now ++ drop result buf.old }
     ensures front { take result buf.new ≡ take result bytes.now }
 {

@@ -1,7 +1,9 @@
 //! Standard input and output, which tell nothing of their content.
 //! A count of faults is all that is known of them.
-ghost use Rattle.std.specs.Prelude.{◌≡◌, ◌≤◌, None, IfOk, OnErr, OnOk};
-ghost use Rattle.io_edges.specs.Count.{Rose};
+ghost use Rattle.std.specs.Prelude.{◌≡◌, ◌<◌, ◌≤◌, None, length, IfOk, OnErr};
+ghost use Rattle.std.specs.Io.{ReadsAtMost, WritesAtMost};
+ghost use Rattle.std.specs.Io.KnownBytes.{ReadConsumes, WriteAppends};
+ghost use Rattle.io_edges.specs.Count.{next_count, Rose, CountsFaults};
 
 use crate::edges::{Failed, Sink, Source};
 use std::alloc::{AllocError, Global};
@@ -27,7 +29,13 @@ impl Source for StdSource {
 
     ghost faults = { λ s. s.faults };
 
-    fn take(&mut self, buf: &mut [u8]) -> Result<usize, Failed> {
+    fn take(&mut self, buf: &mut [u8]) -> Result<usize, Failed>
+        ensures bound { ReadsAtMost result buf.new }
+        ensures bytes { ReadConsumes None None result buf.new }
+        ensures never_falls { self.old.faults ≤ self.new.faults }
+        ensures failed { OnErr result (Rose self.old.faults self.new.faults) }
+        ensures faults { CountsFaults result self.old.faults self.new.faults }
+    {
         match self.input.read(buf) {
             Ok(count) => Ok(count),
             Err(_) => {
@@ -57,9 +65,8 @@ impl StdSink {
 
     /// Writes what was gathered. After `Failed` some of it may not have left.
     pub fn flush(&mut self) -> Result<(), Failed>
+        ensures faults { CountsFaults result self.old.faults self.new.faults }
         ensures never_falls { self.old.faults ≤ self.new.faults }
-        ensures failed { OnErr result (Rose self.old.faults self.new.faults) }
-        ensures ok { OnOk result (self.new.faults ≡ self.old.faults) }
     {
         match self.output.flush() {
             Ok(()) => Ok(()),
@@ -69,8 +76,8 @@ impl StdSink {
 
     // Counts a fault.
     fn fault(&mut self) -> Failed
+        ensures counted { self.new.faults ≡ next_count self.old.faults }
         ensures never_falls { self.old.faults ≤ self.new.faults }
-        ensures rose { Rose self.old.faults self.new.faults }
     {
         self.faults = self.faults.saturating_add(1);
         Failed
@@ -82,7 +89,15 @@ impl Sink for StdSink {
 
     ghost faults = { λ s. s.faults };
 
-    fn give(&mut self, bytes: &[u8]) -> Result<usize, Failed> {
+    fn give(&mut self, bytes: &[u8]) -> Result<usize, Failed>
+        ensures bound { WritesAtMost result bytes.now }
+        ensures bytes { WriteAppends None None result bytes.now }
+        ensures never_falls { self.old.faults ≤ self.new.faults }
+        ensures failed { OnErr result (Rose self.old.faults self.new.faults) }
+        ensures stuck { 0 < length bytes.now → IfOk result (λ n. n ≡ 0 → Rose self.old.faults self.new.faults) }
+        ensures some { 0 < length bytes.now → IfOk result (λ n. 0 < n) }
+        ensures faults { CountsFaults result self.old.faults self.new.faults }
+    {
         match self.output.write(bytes) {
             Ok(0) if !bytes.is_empty() => Err(self.fault()),
             Ok(count) => Ok(count),

@@ -13,9 +13,9 @@ front_and_rest at n items seen taken same e =
     sym (take-append-drop n (drop at items)) ∙ ap (λ l. l ++ drop n (drop at items)) (sym front) ∙ ap (λ l. taken ++ l) (drop-drop n at items)
 
 -- nothing is left where nothing was taken into some room
-at_end : (at n most room : ℕ) (items seen : List ℕ) → seen ≡ items → n ≡ min (min 4096 room) (length (take (length seen - at) (drop at seen))) → n ≡ 0 → 0 < room
+at_end : (at n room : ℕ) (items seen : List ℕ) → seen ≡ items → n ≡ min (min 4096 room) (length (take (length seen - at) (drop at seen))) → n ≡ 0 → 0 < room
     → drop (at + n) items ≡ []
-at_end at n most room items seen same e none some =
+at_end at n room items seen same e none some =
     let P : List ℕ → Type 0 = λ all. n ≡ min (min 4096 room) (length (take (length all - at) (drop at all))) in
     let Q : List ℕ → Type 0 = λ rest. n ≡ min (min 4096 room) (length rest) in
     let left : n ≡ min (min 4096 room) (length (drop at items)) = subst Q (rest_whole at items) (subst P same e) in
@@ -23,6 +23,7 @@ at_end at n most room items seen same e none some =
     nil_from_length _ (length-drop (at + n) items ∙ omega (arith, left, size, none, some))
 
 pub returns-clause-bytes : goal.returns-clause-bytes
-returns-clause-bytes c =
-    ( ap (λ s. s.left) (sym c.self.view_is) ∙ front_and_rest _ _ _ c.deref-2.result.now _ c.deref-2.ensures.value c.copy_front-count.ensures.front,
-      λ none some. at_end _ _ 0 _ _ c.deref-2.result.now c.deref-2.ensures.value c.copy_front-count.ensures.count none (let h = c.copy_front-count.auto.buf in omega (arith, h, some)) )
+returns-clause-bytes c = (
+  ap (λ s. s.left) (sym c.self.view_is) ∙ front_and_rest _ _ _ c.deref-2.result.now _ c.deref-2.ensures.value c.copy_front-count.ensures.front,
+  λ none some. at_end _ _ _ _ c.deref-2.result.now c.deref-2.ensures.value c.copy_front-count.ensures.count none (let h = c.copy_front-count.auto.buf in omega (arith, h, some)),
+)
