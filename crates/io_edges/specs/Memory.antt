@@ -1,5 +1,5 @@
 -- A source and a sink in memory, and how a call leaves them.
-use Rattle.std.specs.Prelude.{◌≡◌, ◌⊎◌, ℕ, ◌<◌, List, ◌++◌, length, take, drop, Contains}
+use Rattle.std.specs.Prelude.{◌≡◌, ◌⊎◌, ℕ, ◌<◌, List, ◌++◌, length, drop, Contains}
 use Rattle.io_edges.specs.Count.{next_count}
 
 -- the most bytes that one call moves

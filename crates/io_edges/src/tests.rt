@@ -6,6 +6,12 @@ use crate::{
 use std::alloc::{AllocError, Global};
 use std::test::Fail;
 
+// Takes into that many places of the buffer.
+fn take_into(source: &mut MemorySource, buf: &mut [u8], room: usize) -> Result<usize, Failed> {
+    let room = room.min(buf.len());
+    source.take(&mut buf[..room])
+}
+
 #[test]
 fn a_source_in_memory_gives_in_order(rt: HostRuntime) -> Result<(), Fail> {
     let alloc = rt.alloc();
@@ -20,7 +26,7 @@ fn a_source_in_memory_gives_in_order(rt: HostRuntime) -> Result<(), Fail> {
         (8192, Err(Failed), 0),
         (8192, Ok(0), 0),
     ] {
-        let got = source.take(&mut buf[..room.min(8192)]);
+        let got = take_into(&mut source, &mut buf, room);
         assert_eq!(rt; got, want);
         assert_eq!(rt; source.left().len(), left);
     }
