@@ -1,7 +1,8 @@
 //! Standard input and output, which tell nothing of their content.
 //! A count of faults is all that is known of them.
-ghost use Rattle.std.specs.Prelude.{◌≡◌, ◌<◌, ◌≤◌, None, length, IfOk, OnErr};
+ghost use Rattle.std.specs.Prelude.{◌≡◌, ◌<◌, ◌≤◌, [], None, length, IfOk, OnErr, OnOk};
 ghost use Rattle.std.specs.Io.{ReadsAtMost, WritesAtMost};
+ghost use Rattle.std.specs.Io.Buffered.{writer_buffer};
 ghost use Rattle.std.specs.Io.KnownBytes.{ReadConsumes, WriteAppends};
 ghost use Rattle.io_edges.specs.Count.{next_count, Rose, CountsFaults};
 
@@ -55,7 +56,8 @@ pub struct StdSink {
 
 impl StdSink {
     pub fn new(alloc: Global, output: Stdout) -> Result<StdSink, AllocError>
-        ensures { IfOk result (λ s. s.faults ≡ 0) }
+        ensures no_fault { IfOk result (λ s. s.faults ≡ 0) }
+        ensures none_gathered { IfOk result (λ s. writer_buffer s.output ≡ []) }
     {
         match BufWriter::new(alloc, output) {
             Ok(output) => Ok(StdSink { output, faults: 0 }),
@@ -65,6 +67,7 @@ impl StdSink {
 
     /// Writes what was gathered. After `Failed` some of it may not have left.
     pub fn flush(&mut self) -> Result<(), Failed>
+        ensures none_gathered { OnOk result (writer_buffer self.new.output ≡ []) }
         ensures faults { CountsFaults result self.old.faults self.new.faults }
         ensures never_falls { self.old.faults ≤ self.new.faults }
     {
