@@ -1,2 +1,6 @@
 pub mod Pairs
 pub mod CountsList
+pub mod Command
+pub mod ItemCode
+pub mod PlanCode
+pub mod PlanCheck

@@ -1,0 +1,43 @@
+-- What a check of a plan, item by item, stands for.
+use Rattle.std.specs.Prelude.{◌≡◌, ℕ, ◌+◌, ◌-◌, ◌<◌, Bool, true, false, ◌&&◌, List, [], ◌∷◌, Option, Some, None, length, nat_le, nat_lt, ◌==◌, if◌then◌else◌}
+use Rattle.mission_model.specs.declared.plan.PlanType.{PlanType}
+use Rattle.mission_model.specs.declared.plan.PlanType.TheVariants.{Mission, Fence, Safe}
+use Rattle.mission_model.specs.declared.plan.Item.{Item}
+use Rattle.mission_model.specs.declared.message.AckCode.{AckCode}
+use Rattle.mission_model.specs.declared.message.AckCode.TheVariants as ack
+use Rattle.mission_model.specs.declared.plan_check.OpenPolygon.{OpenPolygon}
+use Rattle.mission_model.specs.declared.plan_check.PlanCheck.{PlanCheck}
+use Rattle.mission_model.specs.Command.{vertex_count}
+use Rattle.mission_model.specs.PlanCode.{Accepted, jumps_in, open_polygon, is_param}
+
+-- what a check keeps of a polygon that lacks vertices: its first vertex, and how many are missing
+abbrev pub kept_part : List Item → Option OpenPolygon
+kept_part [] = None
+kept_part (first ∷ rest) = Some (record { first = first; missing = vertex_count first - (length rest + 1) })
+
+-- the check has accepted these items, one by one, of a plan of this type and count
+pub record Checked (check : PlanCheck) (kind : PlanType) (count : ℕ) (items : List Item) : Type 0 where
+  pub same_kind : check.kind ≡ kind
+  pub same_count : check.count ≡ count
+  pub taken : check.taken ≡ length items
+  pub jumps : kind ≡ Mission → check.jumps ≡ jumps_in items
+  pub polygon : kind ≡ Fence → check.polygon ≡ kept_part (open_polygon items)
+  pub accepted : Accepted kind count items
+
+-- fewer items were taken than the plan has
+abbrev pub HasRoom : PlanCheck → Type 0
+HasRoom check = check.taken < check.count
+
+-- the code of a vertex by what a check keeps of the polygon before it
+abbrev pub vertex_code_by : Option OpenPolygon → ℕ → Item → Option AckCode
+vertex_code_by None left item = if nat_le (vertex_count item) left then None else Some ack.Invalid
+vertex_code_by (Some polygon) left item = if item.command == polygon.first.command && is_param item.p1 polygon.first.p1 then None else Some ack.Invalid
+
+-- a polygon of which one more of the missing vertices has come
+abbrev pub one_fewer : Item → ℕ → Option OpenPolygon
+one_fewer first missing = if nat_lt 1 missing then Some (record { first = first; missing = missing - 1 }) else None
+
+-- what is kept of a polygon once this vertex has come
+abbrev pub polygon_with : Option OpenPolygon → Item → Option OpenPolygon
+polygon_with None item = one_fewer item (vertex_count item)
+polygon_with (Some polygon) item = one_fewer polygon.first polygon.missing

@@ -1,0 +1,131 @@
+//! The check of a plan: item by item as an upload brings them, without memory, or all items at once. A fence's polygons
+//! stand one after the other; the check keeps the first vertex of the polygon that still lacks vertices.
+
+ghost use Rattle.std.specs.Prelude.{◌≡◌, ℕ, ◌+◌, MatchResult, None, Some, is_some, if◌then◌else◌};
+ghost use Rattle.mission_model.specs.Command.{jump_of};
+ghost use Rattle.mission_model.specs.PlanCode.{jump_code_at};
+
+use crate::command::{jump_of, vertex_count};
+use crate::item_check::check_item;
+use crate::limits::MAX_JUMPS;
+use crate::message::AckCode;
+use crate::plan::{Item, PlanType};
+
+/// A check of a plan that takes its items one by one.
+#[derive(Clone, Copy)]
+pub struct PlanCheck {
+    kind: PlanType,
+    count: u16,
+    taken: u16,
+    jumps: usize,
+    polygon: Option<OpenPolygon>,
+}
+
+/// A polygon that lacks vertices.
+#[derive(Clone, Copy)]
+struct OpenPolygon {
+    first: Item,
+    missing: u32,
+}
+
+impl PlanCheck {
+    ghost use Rattle.std.specs.Prelude.{List, [], ◌∷◌, ◌++◌, OnOk, OnErr};
+    ghost use Rattle.mission_model.specs.declared.plan.Item.{Item};
+    ghost use Rattle.mission_model.specs.declared.plan.PlanType.{PlanType};
+    ghost use Rattle.mission_model.specs.ItemCode.{answer_of};
+    ghost use Rattle.mission_model.specs.PlanCode.{PlanCode};
+    ghost use Rattle.mission_model.specs.PlanCheck.{Checked, HasRoom};
+
+    /// Begins the check of a plan of `count` items.
+    pub fn begin(kind: PlanType, count: u16) -> PlanCheck
+        ensures { Checked result kind count [] }
+    {
+        PlanCheck {
+            kind,
+            count,
+            taken: 0,
+            jumps: 0,
+            polygon: None,
+        }
+    }
+
+    /// Takes the next item, or refuses it with its code: that of `check_item` first, then `NoSpace` for a jump too
+    /// many, then `Invalid` for a jump out of the plan or to itself, a polygon of more vertices than items are left,
+    /// and a vertex unlike the first of its polygon.
+    pub fn next(&mut self, item: &Item) -> Result<(), AckCode>
+        requires { HasRoom self.old }
+        ensures code { (kind : PlanType) (count : ℕ) (items : List Item) → Checked self.old kind count items → result ≡ answer_of (PlanCode kind count items item.now) }
+        ensures ok { OnOk result ((kind : PlanType) (count : ℕ) (items : List Item) → Checked self.old kind count items → Checked self.new kind count (items ++ item.now ∷ [])) }
+        ensures err { OnErr result (self.new ≡ self.old) }
+    {
+        check_item(self.kind, item)?;
+        match self.kind {
+            PlanType::Mission => {
+                self.jumps = jumps_with(self.jumps, self.taken, self.count, item)?;
+            }
+            PlanType::Fence => {
+                self.polygon = polygon_with(self.polygon, self.count - self.taken, item)?;
+            }
+            PlanType::Safe => {}
+        }
+        self.taken += 1;
+        Ok(())
+    }
+}
+
+/// The number of jumps with this item among them.
+fn jumps_with(jumps: usize, place: u16, count: u16, item: &Item) -> Result<usize, AckCode>
+    ensures { MatchResult result (λ more. (jump_code_at count place jumps (jump_of item.now) ≡ None) × (more ≡ jumps + (if is_some (jump_of item.now) then 1 else 0))) (λ code. jump_code_at count place jumps (jump_of item.now) ≡ Some code) }
+{
+    let Some(jump) = jump_of(item) else {
+        return Ok(jumps);
+    };
+    if jumps >= MAX_JUMPS {
+        return Err(AckCode::NoSpace);
+    }
+    if jump.target >= count || jump.target == place {
+        return Err(AckCode::Invalid);
+    }
+    Ok(jumps + 1)
+}
+
+ghost use Rattle.mission_model.specs.PlanCheck.{vertex_code_by, polygon_with, one_fewer};
+
+/// The polygon that lacks vertices once this vertex has come.
+fn polygon_with(
+    polygon: Option<OpenPolygon>,
+    left: u16,
+    item: &Item,
+) -> Result<Option<OpenPolygon>, AckCode>
+    ensures { MatchResult result (λ after. (vertex_code_by polygon left item.now ≡ None) × (after ≡ polygon_with polygon item.now)) (λ code. vertex_code_by polygon left item.now ≡ Some code) }
+{
+    match polygon {
+        None => {
+            let size = vertex_count(item);
+            if size > u32::from(left) {
+                return Err(AckCode::Invalid);
+            }
+            Ok(one_fewer(*item, size))
+        }
+        Some(OpenPolygon { first, missing }) => {
+            if item.command != first.command || item.p1 != first.p1 {
+                return Err(AckCode::Invalid);
+            }
+            Ok(one_fewer(first, missing))
+        }
+    }
+}
+
+/// A polygon of which one more of the missing vertices has come.
+fn one_fewer(first: Item, missing: u32) -> Option<OpenPolygon>
+    ensures { result ≡ one_fewer first missing }
+{
+    if missing > 1 {
+        Some(OpenPolygon {
+            first,
+            missing: missing - 1,
+        })
+    } else {
+        None
+    }
+}
