@@ -1,5 +1,5 @@
 -- What a check of a plan, item by item, stands for.
-use Rattle.std.specs.Prelude.{◌≡◌, ℕ, ◌+◌, ◌-◌, ◌<◌, Bool, true, false, ◌&&◌, List, [], ◌∷◌, Option, Some, None, length, nat_le, nat_lt, ◌==◌, if◌then◌else◌}
+use Rattle.std.specs.Prelude.{◌≡◌, ℕ, ◌+◌, ◌-◌, ◌<◌, Bool, true, false, ◌&&◌, List, [], ◌∷◌, ◌++◌, Option, Some, None, Result, Ok, Err, length, nat_le, nat_lt, ◌==◌, if◌then◌else◌}
 use Rattle.mission_model.specs.declared.plan.PlanType.{PlanType}
 use Rattle.mission_model.specs.declared.plan.PlanType.TheVariants.{Mission, Fence, Safe}
 use Rattle.mission_model.specs.declared.plan.Item.{Item}
@@ -8,7 +8,7 @@ use Rattle.mission_model.specs.declared.message.AckCode.TheVariants as ack
 use Rattle.mission_model.specs.declared.plan_check.OpenPolygon.{OpenPolygon}
 use Rattle.mission_model.specs.declared.plan_check.PlanCheck.{PlanCheck}
 use Rattle.mission_model.specs.Command.{vertex_count}
-use Rattle.mission_model.specs.PlanCode.{Accepted, jumps_in, open_polygon, is_param}
+use Rattle.mission_model.specs.PlanCode.{PlanCode, Accepted, jumps_in, open_polygon, is_param}
 
 -- what a check keeps of a polygon that lacks vertices: its first vertex, and how many are missing
 abbrev pub kept_part : List Item → Option OpenPolygon
@@ -27,6 +27,11 @@ pub record Checked (check : PlanCheck) (kind : PlanType) (count : ℕ) (items : 
 -- fewer items were taken than the plan has
 abbrev pub HasRoom : PlanCheck → Type 0
 HasRoom check = check.taken < check.count
+
+-- an answer to the next item after these: its code, or a check that has accepted it as well
+abbrev pub Takes : PlanType → ℕ → List Item → Item → Result PlanCheck AckCode → Type 0
+Takes kind count items item (Ok check) = (PlanCode kind count items item ≡ None) × Checked check kind count (items ++ item ∷ [])
+Takes kind count items item (Err code) = PlanCode kind count items item ≡ Some code
 
 -- the code of a vertex by what a check keeps of the polygon before it
 abbrev pub vertex_code_by : Option OpenPolygon → ℕ → Item → Option AckCode

@@ -34,7 +34,7 @@ impl PlanCheck {
     ghost use Rattle.mission_model.specs.declared.plan.PlanType.{PlanType};
     ghost use Rattle.mission_model.specs.ItemCode.{answer_of};
     ghost use Rattle.mission_model.specs.PlanCode.{PlanCode};
-    ghost use Rattle.mission_model.specs.PlanCheck.{Checked, HasRoom};
+    ghost use Rattle.mission_model.specs.PlanCheck.{Checked, HasRoom, Takes};
 
     /// Begins the check of a plan of `count` items.
     pub fn begin(kind: PlanType, count: u16) -> PlanCheck
@@ -58,18 +58,36 @@ impl PlanCheck {
         ensures ok { OnOk result ((kind : PlanType) (count : ℕ) (items : List Item) → Checked self.old kind count items → Checked self.new kind count (items ++ item.now ∷ [])) }
         ensures err { OnErr result (self.new ≡ self.old) }
     {
+        *self = self.with_item(item)?;
+        Ok(())
+    }
+
+    /// The check once it has taken this item.
+    fn with_item(&self, item: &Item) -> Result<PlanCheck, AckCode>
+        requires { HasRoom self.now }
+        ensures { (kind : PlanType) (count : ℕ) (items : List Item) → Checked self.now kind count items → Takes kind count items item.now result }
+    {
         check_item(self.kind, item)?;
+        let taken = self.taken + 1;
         match self.kind {
             PlanType::Mission => {
-                self.jumps = jumps_with(self.jumps, self.taken, self.count, item)?;
+                let jumps = jumps_with(self.jumps, self.taken, self.count, item)?;
+                Ok(PlanCheck {
+                    taken,
+                    jumps,
+                    ..*self
+                })
             }
             PlanType::Fence => {
-                self.polygon = polygon_with(self.polygon, self.count - self.taken, item)?;
+                let polygon = polygon_with(self.polygon, self.count - self.taken, item)?;
+                Ok(PlanCheck {
+                    taken,
+                    polygon,
+                    ..*self
+                })
             }
-            PlanType::Safe => {}
+            PlanType::Safe => Ok(PlanCheck { taken, ..*self }),
         }
-        self.taken += 1;
-        Ok(())
     }
 }
 
