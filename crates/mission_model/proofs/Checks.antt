@@ -94,7 +94,7 @@ passed : (code : Option AckCode) → answer_of code ≡ Ok tt → code ≡ None
 passed None h = refl
 passed (Some code) h = absurd cc
 
-failed : (code : Option AckCode) (other : AckCode) → answer_of code ≡ Err other → code ≡ Some other
+pub failed : (code : Option AckCode) (other : AckCode) → answer_of code ≡ Err other → code ≡ Some other
 failed None other h = absurd cc
 failed (Some code) other h = cc
 

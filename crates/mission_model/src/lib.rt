@@ -20,7 +20,7 @@ pub use flight_line::{Actor, Line};
 pub use item_check::check_item;
 pub use message::{AckCode, Answer, Message, Said};
 pub use plan::{Home, Item, Param, Params, PlanHead, PlanType};
-pub use plan_check::PlanCheck;
+pub use plan_check::{PlanCheck, check_plan, limit_of};
 pub use request::{Asked, Client, Reply, Request};
 pub use schedule::{
     BootScript, Boots, CutSpec, InputLine, Inputs, Items, Name, NamedPlan, Plans, Script, TearKind,

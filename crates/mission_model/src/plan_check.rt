@@ -7,7 +7,7 @@ ghost use Rattle.mission_model.specs.PlanCode.{jump_code_at};
 
 use crate::command::{jump_of, vertex_count};
 use crate::item_check::check_item;
-use crate::limits::MAX_JUMPS;
+use crate::limits::{MAX_FENCE_VERTICES, MAX_JUMPS, MAX_MISSION_ITEMS, MAX_SAFE_POINTS};
 use crate::message::AckCode;
 use crate::plan::{Item, PlanType};
 
@@ -29,7 +29,7 @@ struct OpenPolygon {
 }
 
 impl PlanCheck {
-    ghost use Rattle.std.specs.Prelude.{List, [], ◌∷◌, ◌++◌, OnOk, OnErr};
+    ghost use Rattle.std.specs.Prelude.{List, [], ◌∷◌, ◌++◌, OnOk, OnErr, IsTrue, ◌↔◌, length};
     ghost use Rattle.mission_model.specs.declared.plan.Item.{Item};
     ghost use Rattle.mission_model.specs.declared.plan.PlanType.{PlanType};
     ghost use Rattle.mission_model.specs.ItemCode.{answer_of};
@@ -60,6 +60,20 @@ impl PlanCheck {
     {
         *self = self.with_item(item)?;
         Ok(())
+    }
+
+    /// Whether fewer items were taken than the plan has.
+    pub fn has_room(&self) -> bool
+        ensures { IsTrue result ↔ HasRoom self.now }
+    {
+        self.taken < self.count
+    }
+
+    /// The number of items that were taken: the seq of the next one.
+    pub fn taken(&self) -> u16
+        ensures { (kind : PlanType) (count : ℕ) (items : List Item) → Checked self.now kind count items → result ≡ length items }
+    {
+        self.taken
     }
 
     /// The check once it has taken this item.
@@ -146,4 +160,46 @@ fn one_fewer(first: Item, missing: u32) -> Option<OpenPolygon>
     } else {
         None
     }
+}
+
+ghost use Rattle.std.specs.Prelude.{IsOk, IfErr, ◌↔◌, ◌<◌, ◌≤◌, length};
+ghost use Rattle.mission_model.specs.PlanCode.{limit_of, Accepted, PlanValid, FirstRefused};
+
+/// The greatest number of items of a plan of this type.
+pub fn limit_of(kind: PlanType) -> u16
+    ensures { result ≡ limit_of kind }
+{
+    match kind {
+        PlanType::Mission => MAX_MISSION_ITEMS,
+        PlanType::Fence => MAX_FENCE_VERTICES,
+        PlanType::Safe => MAX_SAFE_POINTS,
+    }
+}
+
+/// Checks a whole plan: the first refused place, from 0, and its code. A list over the limit of its type is refused at
+/// the limit with `NoSpace`, whatever its items are.
+pub fn check_plan(kind: PlanType, items: &[Item]) -> Result<(), (u16, AckCode)>
+    ensures ok { IsOk result ↔ PlanValid kind items.now }
+    ensures over { limit_of kind < length items.now → result ≡ Err (limit_of kind, AckCode.NoSpace) }
+    ensures refused { IfErr result (λ at. length items.now ≤ limit_of kind → FirstRefused kind items.now at.0 at.1) }
+{
+    let limit = limit_of(kind);
+    if items.len() > usize::from(limit) {
+        return Err((limit, AckCode::NoSpace));
+    }
+    check_items(kind, items.len() as u16, items)
+}
+
+/// Checks the items of a plan of their number.
+fn check_items(kind: PlanType, count: u16, items: &[Item]) -> Result<(), (u16, AckCode)>
+    requires { count ≡ length items.now }
+    ensures { MatchResult result (λ _. Accepted kind (length items.now) items.now) (λ at. FirstRefused kind items.now at.0 at.1) }
+{
+    let mut check = PlanCheck::begin(kind, count);
+    for item in items {
+        if let Err(code) = check.next(item) {
+            return Err((check.taken(), code));
+        }
+    }
+    Ok(())
 }
