@@ -4,3 +4,4 @@ pub mod Command
 pub mod ItemCode
 pub mod PlanCode
 pub mod PlanCheck
+pub mod CommandRows

@@ -63,3 +63,6 @@ fn is_placed(rule: &CommandRule, least: i32, greatest: i32, coordinate: i32) -> 
 {
     !rule.positioned || least <= coordinate && coordinate <= greatest
 }
+
+#[cfg(test)]
+mod tests;

@@ -203,3 +203,6 @@ fn check_items(kind: PlanType, count: u16, items: &[Item]) -> Result<(), (u16, A
     }
     Ok(())
 }
+
+#[cfg(test)]
+mod tests;
