@@ -5,3 +5,4 @@ pub mod ItemCode
 pub mod PlanCode
 pub mod PlanCheck
 pub mod CommandRows
+pub mod ValidPlan
