@@ -8,6 +8,7 @@ use Rattle.mission_model.specs.declared.message.AckCode.TheVariants as ack
 use Rattle.mission_model.specs.declared.plan_check.OpenPolygon.{OpenPolygon}
 use Rattle.mission_model.specs.declared.plan_check.PlanCheck.{PlanCheck}
 use Rattle.mission_model.specs.Command.{vertex_count}
+use Rattle.mission_model.specs.ItemCode.{answer_of}
 use Rattle.mission_model.specs.PlanCode.{PlanCode, Accepted, jumps_in, open_polygon, is_param}
 
 -- what a check keeps of a polygon that lacks vertices: its first vertex, and how many are missing
@@ -28,10 +29,26 @@ pub record Checked (check : PlanCheck) (kind : PlanType) (count : ℕ) (items : 
 abbrev pub HasRoom : PlanCheck → Type 0
 HasRoom check = check.taken < check.count
 
+-- the number is how many items the check has accepted
+abbrev pub CountsTaken : PlanCheck → ℕ → Type 0
+CountsTaken check taken = (kind : PlanType) (count : ℕ) (items : List Item) → Checked check kind count items → taken ≡ length items
+
+-- the answer to an item is its code after whatever items the check has accepted
+abbrev pub AnswersByCode : PlanCheck → Item → Result (Unit {0}) AckCode → Type 0
+AnswersByCode check item answer = (kind : PlanType) (count : ℕ) (items : List Item) → Checked check kind count items → answer ≡ answer_of (PlanCode kind count items item)
+
+-- the new check has accepted this item after whatever items the old one has accepted
+abbrev pub JoinsItem : PlanCheck → Item → PlanCheck → Type 0
+JoinsItem old item new = (kind : PlanType) (count : ℕ) (items : List Item) → Checked old kind count items → Checked new kind count (items ++ item ∷ [])
+
 -- an answer to the next item after these: its code, or a check that has accepted it as well
 abbrev pub Takes : PlanType → ℕ → List Item → Item → Result PlanCheck AckCode → Type 0
 Takes kind count items item (Ok check) = (PlanCode kind count items item ≡ None) × Checked check kind count (items ++ item ∷ [])
 Takes kind count items item (Err code) = PlanCode kind count items item ≡ Some code
+
+-- the answer to an item after whatever items the check has accepted
+abbrev pub TakesItem : PlanCheck → Item → Result PlanCheck AckCode → Type 0
+TakesItem check item answer = (kind : PlanType) (count : ℕ) (items : List Item) → Checked check kind count items → Takes kind count items item answer
 
 -- the code of a vertex by what a check keeps of the polygon before it
 abbrev pub vertex_code_by : Option OpenPolygon → ℕ → Item → Option AckCode

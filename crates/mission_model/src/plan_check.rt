@@ -1,9 +1,10 @@
 //! The check of a plan: item by item as an upload brings them, without memory, or all items at once. A fence's polygons
 //! stand one after the other; the check keeps the first vertex of the polygon that still lacks vertices.
 
-ghost use Rattle.std.specs.Prelude.{◌≡◌, ℕ, ◌+◌, MatchResult, None, Some, is_some, if◌then◌else◌};
+ghost use Rattle.std.specs.Prelude.{◌≡◌, ◌+◌, ◌<◌, ◌≤◌, ◌↔◌, [], length, IsTrue, is_some, Some, None, IsOk, IfErr, OnOk, OnErr, MatchResult, if◌then◌else◌};
 ghost use Rattle.mission_model.specs.Command.{jump_of};
-ghost use Rattle.mission_model.specs.PlanCode.{jump_code_at};
+ghost use Rattle.mission_model.specs.PlanCode.{limit_of, jump_code_at, Accepted, PlanValid, FirstRefused};
+ghost use Rattle.mission_model.specs.PlanCheck.{Checked, HasRoom, CountsTaken, AnswersByCode, JoinsItem, TakesItem, vertex_code_by, polygon_with, one_fewer};
 
 use crate::command::{jump_of, vertex_count};
 use crate::item_check::check_item;
@@ -29,13 +30,6 @@ struct OpenPolygon {
 }
 
 impl PlanCheck {
-    ghost use Rattle.std.specs.Prelude.{List, [], ◌∷◌, ◌++◌, OnOk, OnErr, IsTrue, ◌↔◌, length};
-    ghost use Rattle.mission_model.specs.declared.plan.Item.{Item};
-    ghost use Rattle.mission_model.specs.declared.plan.PlanType.{PlanType};
-    ghost use Rattle.mission_model.specs.ItemCode.{answer_of};
-    ghost use Rattle.mission_model.specs.PlanCode.{PlanCode};
-    ghost use Rattle.mission_model.specs.PlanCheck.{Checked, HasRoom, Takes};
-
     /// Begins the check of a plan of `count` items.
     pub fn begin(kind: PlanType, count: u16) -> PlanCheck
         ensures { Checked result kind count [] }
@@ -54,8 +48,8 @@ impl PlanCheck {
     /// and a vertex unlike the first of its polygon.
     pub fn next(&mut self, item: &Item) -> Result<(), AckCode>
         requires { HasRoom self.old }
-        ensures code { (kind : PlanType) (count : ℕ) (items : List Item) → Checked self.old kind count items → result ≡ answer_of (PlanCode kind count items item.now) }
-        ensures ok { OnOk result ((kind : PlanType) (count : ℕ) (items : List Item) → Checked self.old kind count items → Checked self.new kind count (items ++ item.now ∷ [])) }
+        ensures code { AnswersByCode self.old item.now result }
+        ensures ok { OnOk result (JoinsItem self.old item.now self.new) }
         ensures err { OnErr result (self.new ≡ self.old) }
     {
         *self = self.with_item(item)?;
@@ -71,7 +65,7 @@ impl PlanCheck {
 
     /// The number of items that were taken: the seq of the next one.
     pub fn taken(&self) -> u16
-        ensures { (kind : PlanType) (count : ℕ) (items : List Item) → Checked self.now kind count items → result ≡ length items }
+        ensures { CountsTaken self.now result }
     {
         self.taken
     }
@@ -79,7 +73,7 @@ impl PlanCheck {
     /// The check once it has taken this item.
     fn with_item(&self, item: &Item) -> Result<PlanCheck, AckCode>
         requires { HasRoom self.now }
-        ensures { (kind : PlanType) (count : ℕ) (items : List Item) → Checked self.now kind count items → Takes kind count items item.now result }
+        ensures { TakesItem self.now item.now result }
     {
         check_item(self.kind, item)?;
         let taken = self.taken + 1;
@@ -107,7 +101,10 @@ impl PlanCheck {
 
 /// The number of jumps with this item among them.
 fn jumps_with(jumps: usize, place: u16, count: u16, item: &Item) -> Result<usize, AckCode>
-    ensures { MatchResult result (λ more. (jump_code_at count place jumps (jump_of item.now) ≡ None) × (more ≡ jumps + (if is_some (jump_of item.now) then 1 else 0))) (λ code. jump_code_at count place jumps (jump_of item.now) ≡ Some code) }
+    ensures { let code = jump_code_at count place jumps (jump_of item.now) in
+        MatchResult result
+        (λ more. (code ≡ None) × (more ≡ jumps + (if is_some (jump_of item.now) then 1 else 0)))
+        (λ refusal. code ≡ Some refusal) }
 {
     let Some(jump) = jump_of(item) else {
         return Ok(jumps);
@@ -121,15 +118,16 @@ fn jumps_with(jumps: usize, place: u16, count: u16, item: &Item) -> Result<usize
     Ok(jumps + 1)
 }
 
-ghost use Rattle.mission_model.specs.PlanCheck.{vertex_code_by, polygon_with, one_fewer};
-
 /// The polygon that lacks vertices once this vertex has come.
 fn polygon_with(
     polygon: Option<OpenPolygon>,
     left: u16,
     item: &Item,
 ) -> Result<Option<OpenPolygon>, AckCode>
-    ensures { MatchResult result (λ after. (vertex_code_by polygon left item.now ≡ None) × (after ≡ polygon_with polygon item.now)) (λ code. vertex_code_by polygon left item.now ≡ Some code) }
+    ensures { let code = vertex_code_by polygon left item.now in
+        MatchResult result
+        (λ after. (code ≡ None) × (after ≡ polygon_with polygon item.now))
+        (λ refusal. code ≡ Some refusal) }
 {
     match polygon {
         None => {
@@ -162,9 +160,6 @@ fn one_fewer(first: Item, missing: u32) -> Option<OpenPolygon>
     }
 }
 
-ghost use Rattle.std.specs.Prelude.{IsOk, IfErr, ◌↔◌, ◌<◌, ◌≤◌, length};
-ghost use Rattle.mission_model.specs.PlanCode.{limit_of, Accepted, PlanValid, FirstRefused};
-
 /// The greatest number of items of a plan of this type.
 pub fn limit_of(kind: PlanType) -> u16
     ensures { result ≡ limit_of kind }
@@ -193,7 +188,9 @@ pub fn check_plan(kind: PlanType, items: &[Item]) -> Result<(), (u16, AckCode)>
 /// Checks the items of a plan of their number.
 fn check_items(kind: PlanType, count: u16, items: &[Item]) -> Result<(), (u16, AckCode)>
     requires { count ≡ length items.now }
-    ensures { MatchResult result (λ _. Accepted kind (length items.now) items.now) (λ at. FirstRefused kind items.now at.0 at.1) }
+    ensures { MatchResult result
+        (λ _. Accepted kind (length items.now) items.now)
+        (λ at. FirstRefused kind items.now at.0 at.1) }
 {
     let mut check = PlanCheck::begin(kind, count);
     for item in items {
