@@ -31,91 +31,98 @@ fn item(frame: u16, command: u16, p1: Param, p2: Param) -> Item {
     }
 }
 
+const NIL: Param = Milli(0);
+
+const BELOW: Param = Milli(-1);
+
+const BROKEN: Param = Milli(3001);
+
+const TOP: Param = Milli(65_535_000);
+
+const PAST: Param = Milli(65_536_000);
+
+/// Plan type, command, param1, param2 and the code.
+static PARAMETERS: [(PlanType, u16, Param, Param, u8); 66] = [
+    // waypoint
+    (Mission, 16, NIL, NIL, ACCEPTED),
+    (Mission, 16, Unset, Unset, ACCEPTED),
+    (Mission, 16, Milli(i32::MAX), Milli(i32::MAX), ACCEPTED),
+    (Mission, 16, BELOW, NIL, 6),
+    (Mission, 16, NIL, BELOW, 7),
+    (Mission, 16, BELOW, BELOW, 6),
+    (Fence, 16, NIL, NIL, 3),
+    (Safe, 16, NIL, NIL, 3),
+    // loiter: unlimited, turns, time
+    (Mission, 17, BELOW, BELOW, ACCEPTED),
+    (Mission, 17, Unset, Unset, ACCEPTED),
+    (Fence, 17, NIL, NIL, 3),
+    (Mission, 18, NIL, BELOW, ACCEPTED),
+    (Mission, 18, Unset, Unset, ACCEPTED),
+    (Mission, 18, BELOW, NIL, 6),
+    (Mission, 19, NIL, BELOW, ACCEPTED),
+    (Mission, 19, Unset, Unset, ACCEPTED),
+    (Mission, 19, BELOW, NIL, 6),
+    // return, land, takeoff
+    (Mission, 20, BELOW, BELOW, ACCEPTED),
+    (Mission, 20, Unset, Unset, ACCEPTED),
+    (Mission, 21, BELOW, BELOW, ACCEPTED),
+    (Mission, 21, Unset, Unset, ACCEPTED),
+    (Mission, 22, BELOW, BELOW, ACCEPTED),
+    (Mission, 22, Unset, Unset, ACCEPTED),
+    (Safe, 22, NIL, NIL, 3),
+    // delay
+    (Mission, 93, NIL, BELOW, ACCEPTED),
+    (Mission, 93, Milli(1), Unset, ACCEPTED),
+    (Mission, 93, Unset, NIL, 6),
+    (Mission, 93, BELOW, NIL, 6),
+    // jump
+    (Mission, 177, NIL, NIL, ACCEPTED),
+    (Mission, 177, TOP, TOP, ACCEPTED),
+    (Mission, 177, PAST, NIL, 6),
+    (Mission, 177, Milli(-1000), NIL, 6),
+    (Mission, 177, BROKEN, NIL, 6),
+    (Mission, 177, Unset, NIL, 6),
+    (Mission, 177, NIL, PAST, 7),
+    (Mission, 177, NIL, Milli(-1000), 7),
+    (Mission, 177, NIL, BROKEN, 7),
+    (Mission, 177, NIL, Unset, 7),
+    (Fence, 177, NIL, NIL, 3),
+    // speed, land start
+    (Mission, 178, NIL, BELOW, ACCEPTED),
+    (Mission, 178, Milli(3000), Unset, ACCEPTED),
+    (Mission, 178, Milli(4000), NIL, 6),
+    (Mission, 178, Milli(-1000), NIL, 6),
+    (Mission, 178, Milli(1500), NIL, 6),
+    (Mission, 178, Unset, NIL, 6),
+    (Mission, 189, BELOW, BELOW, ACCEPTED),
+    (Mission, 189, Unset, Unset, ACCEPTED),
+    // vertices
+    (Fence, 5001, Milli(3000), BELOW, ACCEPTED),
+    (Fence, 5001, TOP, Unset, ACCEPTED),
+    (Fence, 5001, Milli(2000), NIL, 6),
+    (Fence, 5001, PAST, NIL, 6),
+    (Fence, 5001, BROKEN, NIL, 6),
+    (Fence, 5001, Unset, NIL, 6),
+    (Mission, 5001, Milli(3000), NIL, 3),
+    (Fence, 5002, Milli(3000), Unset, ACCEPTED),
+    (Fence, 5002, TOP, BELOW, ACCEPTED),
+    (Fence, 5002, Milli(2000), NIL, 6),
+    (Fence, 5002, PAST, NIL, 6),
+    (Safe, 5002, Milli(3000), NIL, 3),
+    (Fence, 5003, Milli(3000), NIL, 3),
+    // safe point
+    (Safe, 5100, BELOW, BELOW, ACCEPTED),
+    (Safe, 5100, Unset, Unset, ACCEPTED),
+    (Fence, 5100, NIL, NIL, 3),
+    (Mission, 5100, NIL, NIL, 3),
+    // no command of the table
+    (Mission, 0, NIL, NIL, 3),
+    (Mission, 65_535, NIL, NIL, 3),
+];
+
 #[test]
 fn each_command_in_its_plan_with_its_parameters(rt: HostRuntime) {
-    let top = Milli(65_535_000);
-    let past = Milli(65_536_000);
-    let none = Milli(0);
-    let below = Milli(-1);
-    let broken = Milli(3_001);
-    let cases = [
-        // waypoint
-        (Mission, 16, none, none, ACCEPTED),
-        (Mission, 16, Unset, Unset, ACCEPTED),
-        (Mission, 16, Milli(i32::MAX), Milli(i32::MAX), ACCEPTED),
-        (Mission, 16, below, none, 6),
-        (Mission, 16, none, below, 7),
-        (Mission, 16, below, below, 6),
-        (Fence, 16, none, none, 3),
-        (Safe, 16, none, none, 3),
-        // loiter: unlimited, turns, time
-        (Mission, 17, below, below, ACCEPTED),
-        (Mission, 17, Unset, Unset, ACCEPTED),
-        (Fence, 17, none, none, 3),
-        (Mission, 18, none, below, ACCEPTED),
-        (Mission, 18, Unset, Unset, ACCEPTED),
-        (Mission, 18, below, none, 6),
-        (Mission, 19, none, below, ACCEPTED),
-        (Mission, 19, Unset, Unset, ACCEPTED),
-        (Mission, 19, below, none, 6),
-        // return, land, takeoff
-        (Mission, 20, below, below, ACCEPTED),
-        (Mission, 20, Unset, Unset, ACCEPTED),
-        (Mission, 21, below, below, ACCEPTED),
-        (Mission, 21, Unset, Unset, ACCEPTED),
-        (Mission, 22, below, below, ACCEPTED),
-        (Mission, 22, Unset, Unset, ACCEPTED),
-        (Safe, 22, none, none, 3),
-        // delay
-        (Mission, 93, none, below, ACCEPTED),
-        (Mission, 93, Milli(1), Unset, ACCEPTED),
-        (Mission, 93, Unset, none, 6),
-        (Mission, 93, below, none, 6),
-        // jump
-        (Mission, 177, none, none, ACCEPTED),
-        (Mission, 177, top, top, ACCEPTED),
-        (Mission, 177, past, none, 6),
-        (Mission, 177, Milli(-1000), none, 6),
-        (Mission, 177, broken, none, 6),
-        (Mission, 177, Unset, none, 6),
-        (Mission, 177, none, past, 7),
-        (Mission, 177, none, Milli(-1000), 7),
-        (Mission, 177, none, broken, 7),
-        (Mission, 177, none, Unset, 7),
-        (Fence, 177, none, none, 3),
-        // speed, land start
-        (Mission, 178, none, below, ACCEPTED),
-        (Mission, 178, Milli(3000), Unset, ACCEPTED),
-        (Mission, 178, Milli(4000), none, 6),
-        (Mission, 178, Milli(-1000), none, 6),
-        (Mission, 178, Milli(1500), none, 6),
-        (Mission, 178, Unset, none, 6),
-        (Mission, 189, below, below, ACCEPTED),
-        (Mission, 189, Unset, Unset, ACCEPTED),
-        // vertices
-        (Fence, 5001, Milli(3000), below, ACCEPTED),
-        (Fence, 5001, top, Unset, ACCEPTED),
-        (Fence, 5001, Milli(2000), none, 6),
-        (Fence, 5001, past, none, 6),
-        (Fence, 5001, broken, none, 6),
-        (Fence, 5001, Unset, none, 6),
-        (Mission, 5001, Milli(3000), none, 3),
-        (Fence, 5002, Milli(3000), Unset, ACCEPTED),
-        (Fence, 5002, top, below, ACCEPTED),
-        (Fence, 5002, Milli(2000), none, 6),
-        (Fence, 5002, past, none, 6),
-        (Safe, 5002, Milli(3000), none, 3),
-        (Fence, 5003, Milli(3000), none, 3),
-        // safe point
-        (Safe, 5100, below, below, ACCEPTED),
-        (Safe, 5100, Unset, Unset, ACCEPTED),
-        (Fence, 5100, none, none, 3),
-        (Mission, 5100, none, none, 3),
-        // no command of the table
-        (Mission, 0, none, none, 3),
-        (Mission, 65_535, none, none, 3),
-    ];
-    for (kind, command, p1, p2, want) in cases {
+    for &(kind, command, p1, p2, want) in &PARAMETERS {
         let item = item(3, command, p1, p2);
         assert_eq!(rt; code(check_item(kind, &item)), want, "command {command}");
     }
