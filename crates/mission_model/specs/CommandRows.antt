@@ -6,7 +6,7 @@ use Rattle.mission_model.specs.declared.plan.Item.{Item}
 use Rattle.mission_model.specs.declared.command.CommandRule.{CommandRule}
 use Rattle.mission_model.specs.declared.command.ParamRule.{ParamRule}
 use Rattle.mission_model.specs.declared.command.ParamRule.TheVariants.{Any, UnsetOrNotNegative, NotNegative, Whole}
-use Rattle.mission_model.specs.declared.command.TheConstants.{NAV_WAYPOINT, NAV_LOITER_UNLIM, NAV_LOITER_TURNS, NAV_LOITER_TIME, NAV_RETURN_TO_LAUNCH, NAV_LAND, NAV_TAKEOFF, NAV_DELAY, DO_JUMP, DO_CHANGE_SPEED, DO_LAND_START, FENCE_VERTEX_INCLUSION, FENCE_VERTEX_EXCLUSION, RALLY_POINT}
+use Rattle.mission_model.specs.declared.command.TheConstants.{NAV_WAYPOINT, NAV_LOITER_UNLIM, NAV_LOITER_TURNS, NAV_LOITER_TIME, NAV_RETURN_TO_LAUNCH, NAV_LAND, NAV_TAKEOFF, NAV_DELAY, DO_JUMP, DO_CHANGE_SPEED, DO_LAND_START, NAV_FENCE_POLYGON_VERTEX_INCLUSION, NAV_FENCE_POLYGON_VERTEX_EXCLUSION, NAV_RALLY_POINT}
 use Rattle.mission_model.specs.Command.{rule_of}
 
 -- a command's row: its plan type, whether it has a position, and the rules of its parameters
@@ -57,14 +57,14 @@ pub rule_of-DO_LAND_START : Row Mission DO_LAND_START false Any Any
 unfolding rule_of
 rule_of-DO_LAND_START = refl
 
-pub rule_of-FENCE_VERTEX_INCLUSION : Row Fence FENCE_VERTEX_INCLUSION true (Whole 3 65535) Any
+pub rule_of-NAV_FENCE_POLYGON_VERTEX_INCLUSION : Row Fence NAV_FENCE_POLYGON_VERTEX_INCLUSION true (Whole 3 65535) Any
 unfolding rule_of
-rule_of-FENCE_VERTEX_INCLUSION = refl
+rule_of-NAV_FENCE_POLYGON_VERTEX_INCLUSION = refl
 
-pub rule_of-FENCE_VERTEX_EXCLUSION : Row Fence FENCE_VERTEX_EXCLUSION true (Whole 3 65535) Any
+pub rule_of-NAV_FENCE_POLYGON_VERTEX_EXCLUSION : Row Fence NAV_FENCE_POLYGON_VERTEX_EXCLUSION true (Whole 3 65535) Any
 unfolding rule_of
-rule_of-FENCE_VERTEX_EXCLUSION = refl
+rule_of-NAV_FENCE_POLYGON_VERTEX_EXCLUSION = refl
 
-pub rule_of-RALLY_POINT : Row Safe RALLY_POINT true Any Any
+pub rule_of-NAV_RALLY_POINT : Row Safe NAV_RALLY_POINT true Any Any
 unfolding rule_of
-rule_of-RALLY_POINT = refl
+rule_of-NAV_RALLY_POINT = refl

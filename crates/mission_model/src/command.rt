@@ -29,11 +29,11 @@ pub const DO_CHANGE_SPEED: u16 = 178;
 
 pub const DO_LAND_START: u16 = 189;
 
-pub const FENCE_VERTEX_INCLUSION: u16 = 5001;
+pub const NAV_FENCE_POLYGON_VERTEX_INCLUSION: u16 = 5001;
 
-pub const FENCE_VERTEX_EXCLUSION: u16 = 5002;
+pub const NAV_FENCE_POLYGON_VERTEX_EXCLUSION: u16 = 5002;
 
-pub const RALLY_POINT: u16 = 5100;
+pub const NAV_RALLY_POINT: u16 = 5100;
 
 pub const FRAME_GLOBAL: u16 = 0;
 
@@ -158,21 +158,21 @@ pub const COMMANDS: [CommandRule; 14] = [
         param2: ParamRule::Any,
     },
     CommandRule {
-        command: FENCE_VERTEX_INCLUSION,
+        command: NAV_FENCE_POLYGON_VERTEX_INCLUSION,
         kind: PlanType::Fence,
         positioned: true,
         param1: ParamRule::Whole(3, u16::MAX),
         param2: ParamRule::Any,
     },
     CommandRule {
-        command: FENCE_VERTEX_EXCLUSION,
+        command: NAV_FENCE_POLYGON_VERTEX_EXCLUSION,
         kind: PlanType::Fence,
         positioned: true,
         param1: ParamRule::Whole(3, u16::MAX),
         param2: ParamRule::Any,
     },
     CommandRule {
-        command: RALLY_POINT,
+        command: NAV_RALLY_POINT,
         kind: PlanType::Safe,
         positioned: true,
         param1: ParamRule::Any,
