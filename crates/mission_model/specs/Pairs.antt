@@ -1,5 +1,5 @@
 -- Pairs of a jump's seq and its used number: how a list of them is kept, looked up and changed.
-use Rattle.std.specs.Prelude.{ℕ, ◌+◌, Bool, true, false, ◌&&◌, List, [], ◌∷◌, take, drop, nat_le, nat_lt, ◌==◌, if◌then◌else◌}
+use Rattle.std.specs.Prelude.{ℕ, ◌+◌, Bool, true, false, ◌&&◌, List, [], ◌∷◌, length, get_or, take, drop, nat_le, nat_lt, ◌==◌, if◌then◌else◌}
 use Rattle.mission_model.specs.declared.limits.TheConstants.{MAX_JUMPS}
 
 -- the seqs rise from this one on, and each used number is at least 1
@@ -31,3 +31,12 @@ abbrev pub with_pair : List (ℕ × ℕ) → ℕ → ℕ → List (ℕ × ℕ)
 with_pair [] seq used = (seq, used) ∷ []
 with_pair ((other, count) ∷ pairs) seq used =
     if other == seq then (seq, used) ∷ pairs else (if nat_lt seq other then (seq, used) ∷ (other, count) ∷ pairs else (other, count) ∷ with_pair pairs seq used)
+
+-- how many of the first pairs are of lesser seqs
+abbrev pub place_of : List (ℕ × ℕ) → ℕ → ℕ
+place_of [] seq = 0
+place_of ((other, used) ∷ pairs) seq = if nat_lt other seq then 1 + place_of pairs seq else 0
+
+-- the pair at the place is the seq's
+abbrev pub is_at : List (ℕ × ℕ) → ℕ → ℕ → Bool
+is_at pairs place seq = nat_lt place (length pairs) && (get_or pairs place (0, 0)).0 == seq

@@ -2,21 +2,30 @@
 //! a record and the parts of a script. Plain data, and the limits of the product.
 #![tactic(auto)]
 
+pub mod command;
 mod counts;
 mod flight_line;
+mod item_check;
 pub mod limits;
 mod message;
 mod plan;
+mod plan_check;
 mod request;
+mod same;
 mod schedule;
 mod vehicle;
 mod watch;
 
 pub use counts::{Counts, Mark};
 pub use flight_line::{Actor, Line};
+pub use item_check::check_item;
 pub use message::{AckCode, Answer, Message, Said};
 pub use plan::{Home, Item, Param, Params, PlanHead, PlanType};
+pub use plan_check::{PlanCheck, check_plan, limit_of};
 pub use request::{Asked, Client, Reply, Request};
+pub use same::{
+    is_same_asked, is_same_head, is_same_item, is_same_mark, is_same_param, is_same_reply,
+};
 pub use schedule::{
     BootScript, Boots, CutSpec, InputLine, Inputs, Items, Name, NamedPlan, Plans, Script, TearKind,
     Turns,
