@@ -1,0 +1,4 @@
+mod Images
+mod Calls
+mod Shelves
+mod Records
