@@ -1,0 +1,4 @@
+pub mod Inputs
+pub mod NavStays
+pub mod Taking
+pub mod CoreStays

@@ -1,0 +1,11 @@
+pub mod ScheduleState
+pub mod SharedState
+pub mod Ready
+pub mod LinkState
+pub mod LinkLaw
+pub mod WorkerLaw
+pub mod NavState
+pub mod NavLaw
+pub mod Keeps
+pub mod CoreState
+pub mod CoreLaw

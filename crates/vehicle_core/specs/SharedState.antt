@@ -1,0 +1,30 @@
+-- What all actors share: the board, the arrivals at the meeting places, and the plan ids that are used.
+use Rattle.std.specs.Prelude.{ℕ, ◌+◌, min, List, slice_index_or, slice_set, map, replicate}
+use Rattle.mission_model.specs.declared.limits.TheConstants.{MAX_PLACES}
+use Rattle.mission_model.specs.declared.plan.PlanHead.{PlanHead}
+use Rattle.request_board.specs.BoardCalls.{opened}
+use Rattle.request_board.specs.BoardState.{BoardState}
+
+-- the board; at each meeting place the arrivals of this boot, counted up to 255; of each kind the greatest plan id
+-- that was committed or used in this boot
+pub record SharedState : Type 0 where
+  pub board : BoardState
+  pub arrivals : List ℕ
+  pub ids : List ℕ
+
+-- the arrivals at a meeting place
+abbrev pub arrivals_at : SharedState → ℕ → ℕ
+arrivals_at shared place = slice_index_or shared.arrivals place 0
+
+-- one more client came to a meeting place
+abbrev pub arrived_at : SharedState → ℕ → SharedState
+arrived_at shared place = record shared { arrivals = slice_set shared.arrivals place (min 255 (arrivals_at shared place + 1)) }
+
+-- another board
+abbrev pub with_board : SharedState → BoardState → SharedState
+with_board shared board = record shared { board = board }
+
+-- the shared part at the beginning of a boot: nothing is asked, nobody has come to a meeting, and no id is used beyond
+-- those in force
+abbrev pub new_shared : List PlanHead → ℕ → SharedState
+new_shared heads links = record { board = opened links 0 heads; arrivals = replicate MAX_PLACES 0; ids = map (λ (head : PlanHead). head.id) heads }
