@@ -1,0 +1,5 @@
+mod Counting
+mod Closing
+mod Writing
+mod Opening
+mod Found

@@ -1,0 +1,4 @@
+pub mod Cell
+pub mod Slots
+pub mod Refusals
+pub mod Beside
