@@ -168,13 +168,13 @@ scaled_from_parts bytes t p scale h parts digits = (
 
 -- an exponent beyond the limit cuts as the limit does, as far as it matters
 pub limited_exponent : (ds : List ℕ) (whole scale : ℕ) (s : Sign) (power : ℕ) → length ds ≤ 64 → whole ≤ 64 → scale ≤ 9
-    → min (leading_number ds (kept whole scale s (min power 1000))) (10 ^ 12) ≡ min (leading_number ds (kept whole scale s power)) (10 ^ 12)
+    → min (leading_number ds (kept whole scale s (min power 128))) (10 ^ 12) ≡ min (leading_number ds (kept whole scale s power)) (10 ^ 12)
 limited_exponent ds whole scale s power few front low = ⊎_elim
-    (λ small. let e : min power 1000 ≡ power = omega arith in ap (λ k. min (leading_number ds (kept whole scale s k)) (10 ^ 12)) e)
-    (λ large. let e : min power 1000 ≡ 1000 = omega arith in ap (λ k. min (leading_number ds (kept whole scale s k)) (10 ^ 12)) e ∙ beyond s large)
-    (cases_lt power 1000)
+    (λ small. let e : min power 128 ≡ power = omega arith in ap (λ k. min (leading_number ds (kept whole scale s k)) (10 ^ 12)) e)
+    (λ large. let e : min power 128 ≡ 128 = omega arith in ap (λ k. min (leading_number ds (kept whole scale s k)) (10 ^ 12)) e ∙ beyond s large)
+    (cases_lt power 128)
   where
-    beyond : (s : Sign) → 1000 ≤ power → min (leading_number ds (kept whole scale s 1000)) (10 ^ 12) ≡ min (leading_number ds (kept whole scale s power)) (10 ^ 12)
+    beyond : (s : Sign) → 128 ≤ power → min (leading_number ds (kept whole scale s 128)) (10 ^ 12) ≡ min (leading_number ds (kept whole scale s power)) (10 ^ 12)
     beyond Bare large = leading_far ds _ _ 12 (omega arith) (omega arith)
     beyond Plus large = leading_far ds _ _ 12 (omega arith) (omega arith)
     beyond Minus large = ap (λ c. min (leading_number ds c) (10 ^ 12)) (omega arith)

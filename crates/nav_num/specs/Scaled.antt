@@ -49,7 +49,7 @@ scaled_under t = 10 ^ (length (fraction_digits t.fraction) + power_down t.power)
 abbrev pub IsNear : ℤ → ℕ → ℤ → Type 0
 IsNear over under n = 2 * unsigned_abs (n *ℤ pos under -ℤ over) ≤ under
 
--- n is the whole number nearest to over / under: of two that are equally near it is that of greater absolute value
+-- n is over / under rounded: it differs by no more than a half, and no other such number has a greater magnitude
 pub record IsNearest (over : ℤ) (under : ℕ) (n : ℤ) : Type 0 where
   pub near : IsNear over under n
   pub away : (other : ℤ) → IsNear over under other → unsigned_abs other ≤ unsigned_abs n

@@ -11,7 +11,8 @@ pub enum NumFault {
     /// The token has more than 64 bytes.
     #[error("number too long")]
     TooLong,
-    /// The first byte, from 0, that no token can have there; the length where it ends too early.
+    /// Up to this byte, counted from 0, a token could still have come, and with it no more; if the
+    /// bytes end there a further one is missing.
     #[error("bad digit at byte {0}")]
     BadDigit(u8),
     /// The scaled number is outside `i32`.

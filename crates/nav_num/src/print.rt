@@ -90,8 +90,8 @@ fn push_scaled(out: &mut Vec<u8>, value: i32, scale: u8) -> Result<(), AllocErro
     push_magnitude(out, value.unsigned_abs(), scale)
 }
 
-/// Appends a whole number of units of 10^-scale as its shortest exact decimal, without an exponent
-/// and with at least one digit before a point.
+/// Appends what a whole number of units of 10^-scale is worth: `-50` at scale 3 is `-0.05`. No zero
+/// stands at the end of a fraction, and `1000` at scale 3 is `1`, with no point.
 pub fn print_scaled(out: &mut Vec<u8>, value: i32, scale: u8) -> Result<(), AllocError>
     requires { scale ≤ 9 }
     ensures ok { OnOk result (out.new.items ≡ out.old.items ++ decimal_of value scale) }

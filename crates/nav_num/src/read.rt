@@ -16,7 +16,7 @@ use crate::token::{Parts, Sign, take_apart};
 use crate::{MOST_BYTES, MOST_NUMBER};
 
 /// An exponent beyond which a token whose digits are not all 0 reads as 0, or is out of range.
-const MOST_POWER: u64 = 1_000;
+const MOST_POWER: u64 = 128;
 
 /// How many digits of a token its scaled number keeps: those before its point, and one more.
 fn digits_kept(parts: &Parts<'_>, scale: u8) -> usize
@@ -78,10 +78,9 @@ fn read_token(token: &[u8], scale: u8) -> Result<i32, NumFault>
 
 /// Reads a decimal token as a whole number of units of 10^-scale: the nearest, ties away from 0.
 ///
-/// A token is an optional sign, digits with at most one point and at least one digit, and optionally
-/// `e` or `E` with an optional sign and at least one digit. Its faults, the first that holds:
-/// `Empty`; `TooLong` above 64 bytes; `BadDigit` at the first byte, from 0, that no token can have
-/// there, or at the length of a token that ends too early; `OutOfRange` outside `i32`.
+/// `12`, `-.5`, `+5.` and `4.75E-03` are tokens; `1e`, `.`, `1.5.2` and a blank in front are none.
+/// Where a token has several faults the order is that of [`NumFault`]'s variants: how long it is
+/// comes before how it is written, and both before what it is worth.
 pub fn read_scaled(token: &[u8], scale: u8) -> Result<i32, NumFault>
     requires { scale ≤ 9 }
     ensures answer { MatchResult result (ReadsAs token.now scale) (HasFault token.now scale) }

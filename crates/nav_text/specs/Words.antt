@@ -7,7 +7,7 @@ use Rattle.nav_text.specs.declared.span.Span.{Span}
 abbrev pub is_blank : ℕ → Bool
 is_blank byte = (byte == 32) || (byte == 9)
 
--- the words of a line: the longest runs of bytes other than space and tab
+-- the words of a line: what spaces and tabs part it into, empty parts left out
 unfoldable pub words_in : List ℕ → List (List ℕ)
 words_in line = filter (λ piece. nat_lt 0 (length piece)) (slice_split is_blank line)
 

@@ -121,9 +121,9 @@ fn ascii_lines(alloc: Global, text: &[u8]) -> Result<Vec<Span>, TextFault>
     Ok(spans)
 }
 
-/// The lines of a text: each ends at a line feed or at the end of the text, and one carriage
-/// return in front of the line feed belongs to neither. A text is ASCII, and its lines are of at
-/// most 512 bytes.
+/// The lines of a text, told without their ends: a line feed, or a carriage return and a line feed.
+/// Bytes behind the last line feed are a line too. A text is ASCII, and its lines are of at most
+/// 512 bytes.
 pub fn split_lines(alloc: Global, text: &[u8]) -> Result<Vec<Span>, TextFault>
     requires { length text.now ≤ MAX_TEXT_BYTES }
     // The spans name the text's lines, and lie exactly where those lie.

@@ -1,6 +1,6 @@
 //! Texts with their lines and words, as the rules for them say.
 
-use crate::{MAX_TEXT_BYTES, Span, TextFault, join_text, split_lines, words_of};
+use crate::{MAX_LINE_BYTES, MAX_TEXT_BYTES, Span, TextFault, join_text, split_lines, words_of};
 use std::test::*;
 
 const LONGEST: [u8; 512] = [b'a'; 512];
@@ -72,6 +72,34 @@ fn words_of_lines(rt: HostRuntime) -> Result<(), Fail> {
         assert!(rt; same(&words, places), "at {}", text.len());
     }
     Ok(())
+}
+
+/// A span that goes on past the text, one that begins behind it, and one that ends before it begins.
+#[test]
+fn words_of_clipped_lines(rt: HostRuntime) -> Result<(), Fail> {
+    let rows: [(Span, &[(u32, u32)]); 4] = [
+        (Span { from: 1, to: 99 }, &[(1, 2), (3, 5)]),
+        (Span { from: 6, to: 9 }, &[]),
+        (Span { from: 4, to: 1 }, &[]),
+        (
+            Span {
+                from: 0,
+                to: 4_294_967_295,
+            },
+            &[(0, 2), (3, 5)],
+        ),
+    ];
+    for (line, places) in rows {
+        let words = words_of(rt.alloc(), b"ab cd", line)?;
+        assert!(rt; same(&words, places), "from {}", line.from);
+    }
+    Ok(())
+}
+
+#[test]
+fn limits_of_texts(rt: HostRuntime) {
+    assert_eq!(rt; MAX_TEXT_BYTES, 4_194_304);
+    assert_eq!(rt; MAX_LINE_BYTES, 512);
 }
 
 #[test]

@@ -3,7 +3,7 @@ use Rattle.std.specs.Prelude.{List, [], ◌∷◌, map, ◌==◌, if◌then◌el
 use Rattle.mission_model.specs.declared.plan.Param.{Param}
 use Rattle.mission_model.specs.declared.plan.Param.TheVariants.{Unset, Milli}
 use Rattle.mission_model.specs.declared.plan.Item.{Item}
-use Rattle.wpl_items.specs.declared.home.TheConstants.{DO_JUMP}
+use Rattle.mission_model.specs.declared.command.TheConstants.{DO_JUMP}
 
 -- a jump's target, in thousandths, where one row in front of it is gone; a negative one stays as it is
 abbrev pub one_less : Param → Param

@@ -1,4 +1,4 @@
--- Plan texts: a header, one row for each item, and blank lines at the end.
+-- What makes a text the plan text of some items: how it begins, which of its lines are rows, and that the rows are the items.
 use Rattle.std.specs.Prelude.{◌≡◌, ℕ, ◌≤◌, List, [], ◌∷◌, length, drop, Bool, true, false, ◌&&◌, nat_eq, codes, None, Some, if◌then◌else◌}
 use Rattle.std.specs.List.{list_all, starts_with}
 use Rattle.nav_text.specs.Lines.{lines_of}

@@ -9,7 +9,7 @@ use nav_text::TextFault;
 use std::alloc::{AllocError, AllocFailed};
 use thiserror::Error;
 
-/// The first fault of a plan text. Lines and fields are numbered from 1, and the header is line 1.
+/// Why a text is no plan text, and where: `(2, 1)` is the first word of the row behind the header.
 #[derive(Clone, Copy, Debug, PartialEq, Eq, Error)]
 pub enum WplFault {
     /// The text can not be split into lines.

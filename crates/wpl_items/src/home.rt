@@ -3,10 +3,8 @@
 ghost use Rattle.std.specs.Prelude.{◌≡◌, map};
 ghost use Rattle.wpl_items.specs.Home.{one_less, retargeted, without_home};
 
+use mission_model::command::DO_JUMP;
 use mission_model::{Item, Param};
-
-/// The command MAV_CMD_DO_JUMP, whose first parameter is the row to go to.
-const DO_JUMP: u16 = 177;
 
 /// One row, as a jump's target tells it.
 const ONE_ROW: i32 = 1000;

@@ -99,9 +99,39 @@ fn header_alone(rt: HostRuntime) -> Result<(), Fail> {
     Ok(())
 }
 
+/// The largest numbers that fields take, and a command of ten digits.
+#[test]
+fn fields_at_their_limits(rt: HostRuntime) -> Result<(), Fail> {
+    let rows: [(&[u8], Item); 3] = [
+        (
+            b"QGC WPL 110\n0 1 255 16 0 0 0 0 47.376 8.55 10 255",
+            Item {
+                frame: 255,
+                ..WAYPOINT
+            },
+        ),
+        (
+            b"QGC WPL 110\n0 255 3 0000000016 0 0 0 0 47.376 8.55 10 1",
+            WAYPOINT,
+        ),
+        (
+            b"QGC WPL 110\n0 1 3 65535 0 0 0 0 47.376 8.55 10 1",
+            Item {
+                command: 65_535,
+                ..WAYPOINT
+            },
+        ),
+    ];
+    for (text, item) in rows {
+        let items = read_wpl(rt.alloc(), text).ok().ok_or("the text is a plan")?;
+        assert!(rt; items.as_slice() == [item].as_slice());
+    }
+    Ok(())
+}
+
 #[test]
 fn first_faults(rt: HostRuntime) {
-    let rows: [(&[u8], WplFault); 14] = [
+    let rows: [(&[u8], WplFault); 16] = [
         (
             b"QGC WPL 120\n\xff",
             WplFault::Text(TextFault::NotAscii(12)),
@@ -127,6 +157,14 @@ fn first_faults(rt: HostRuntime) {
         (
             b"QGC WPL 110\n0 1 0 00000000016 0 0 0 0 0 0 0 1",
             WplFault::BadWhole(2, 4),
+        ),
+        (
+            b"QGC WPL 110\n0 1 0 65536 0 0 0 0 0 0 0 1",
+            WplFault::BadWhole(2, 4),
+        ),
+        (
+            b"QGC WPL 110\n0 256 0 16 0 0 0 0 0 0 0 1",
+            WplFault::BadWhole(2, 2),
         ),
         (
             b"QGC WPL 110\n0 1 0 16 0 0 0 0 0 0 0 256",
