@@ -4,5 +4,11 @@ pub mod Command
 pub mod ItemCode
 pub mod PlanCode
 pub mod PlanCheck
+pub mod Fence
+pub mod Landing
+pub mod Returns
 pub mod CommandRows
 pub mod ValidPlan
+pub mod Legs
+pub mod PlainMission
+pub mod Feasible

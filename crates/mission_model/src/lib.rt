@@ -1,5 +1,7 @@
 //! The words that all crates share: plans and items, requests and replies, messages and answers, the lines of
-//! a record and the parts of a script. Plain data, and the limits of the product.
+//! a record and the parts of a script, all plain data; the limits of the product; and the checks of an item and of a
+//! plan, item by item or whole. Its definitions say what a fence allows, what makes a mission feasible, what a step of a
+//! mission does and where a return leads.
 #![tactic(auto)]
 
 pub mod command;
