@@ -2,7 +2,7 @@
 use Rattle.std.proofs.Common.{◌≡◌, if◌then◌else◌, ◌⊎◌, ◌<◌, ◌≤◌, ◌+◌, ◌-◌, ℕ, suc, Bool, true, false, IsTrue, List, [], ◌∷◌, ◌++◌, length, get_or, slice_get, Some, Result, Ok, Err, inl, inr, ⊎_elim, refl, sym, ◌∙◌, ap, subst, arith, length-append}
 use Rattle.std.proofs.lemmas.Bool.{false≢true, true≢false}
 use Rattle.disk_model.specs.Bytes.{Outside, Torn, field}
-use Rattle.disk_model.specs.Places.{is_field, same_bytes, sides}
+use Rattle.disk_model.specs.Places.{is_field, same_bytes, sides, torn_none}
 use Rattle.disk_model.specs.Disk.{Only, Elapses, Reads, Writes, Syncs, Restarts, AfterCall, AfterChange, AfterRead, next_call}
 use Rattle.disk_model.specs.File.{uncut_meter}
 use Rattle.disk_model.specs.History.{Change, Put, Settle, Moment, changed, replay, zero_moment, replay_last, nothing_else, keeps, seen_in}
@@ -115,6 +115,7 @@ written size at bytes b b' xs t t' torn here is = record {
   torn = λ told. torn;
   images = λ c left. subst (λ (s : Moment). s.images c) (replay_last (zero_moment size) xs (Put at bytes)) left;
   allows = λ d c left changes. subst (λ (s : Moment). s.images c) (sym (replay_last (zero_moment size) xs (Put at bytes))) (d, left, changes);
+  kept = λ c left. subst (λ (s : Moment). s.images c) (sym (replay_last (zero_moment size) xs (Put at bytes))) (c, left, torn_none at (length bytes) c);
   off = λ off. absurd (true≢false off);
   time = time size b b' xs (Put at bytes) t t';
   meter = counted_change size t t' is;

@@ -104,7 +104,7 @@ pub record AfterCall (named : Bool) (old new : Meter) (result : Result (Unit {0}
   pub cut : IsErrOf result fault.Cut → CutComes old new ⊎ (old.power ≡ false)
   pub comes : (CutComes old new × IsErrOf result fault.Cut) ⊎ NoCut old new
   pub off : (old.power ≡ false) → IsErrOf result fault.Cut × NoCut old new
-  -- where cuts are offered, the cut comes exactly inside the call that it names
+  -- on a disk that can be cut, with the power on, the call that an armed cut names is cut, and no other is
   pub exactly : IsTrue old.can_cut → IsTrue old.power → (IsTrue named → CutComes old new) × ((named ≡ false) → NoCut old new)
 
 -- whether the armed cut is at the n-th write or sync
@@ -136,12 +136,13 @@ pub record Reads (at n : ℕ) (old new : DiskState) (got : List ℕ) (result : R
   pub time : Elapses old new
   pub meter : AfterRead old.meter new.meter result
 
--- `write_at`: it may leave any bytes in its range, whole or not, and no byte outside it changes
+-- `write_at`: its range may come out of a cut with any bytes, whether the call succeeded or not, and every image of before is still one
 pub record Writes (at : ℕ) (bytes : List ℕ) (old new : DiskState) (result : Result (Unit {0}) DiskFault) : Type 0 where
   pub written : IsTrue old.tells → OnOk result (Holds at bytes old.seen new.seen)
   pub torn : IsTrue old.tells → Torn at (length bytes) old.seen new.seen
   pub images : Follows (Torn at (length bytes)) old.images new.images
   pub allows : OnOk result (Allows (Torn at (length bytes)) old.images new.images)
+  pub kept : (c : List ℕ) → old.images c → new.images c
   pub off : (old.meter.power ≡ false) → Still old new
   pub time : Elapses old new
   pub meter : AfterChange old.meter new.meter result

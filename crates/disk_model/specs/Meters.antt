@@ -57,6 +57,10 @@ pub record CutWithin (k r : ℕ) (old new : Meter) : Type 0 where
 pub ok_is_uncut : (named : Bool) (old new : Meter) (u : Unit {0}) → AfterCall named old new (Ok u) → NoCut old new
 ok_is_uncut named old new u after = ⊎_elim (λ cut. absurd (true≢false (ap is_ok cut.1))) (λ none. none) after.comes
 
+-- nor does a call that is Ok count a fault
+pub ok_is_calm : (named : Bool) (old new : Meter) (u : Unit {0}) → AfterCall named old new (Ok u) → new.faults ≡ old.faults
+ok_is_calm named old new u after = ⊎_elim (λ failed. absurd (true≢false (ap is_ok failed))) (λ same. same) after.calm
+
 abbrev is_cut : Result (Unit {0}) DiskFault → Bool
 is_cut (Ok _) = false
 is_cut (Err fault.Failed) = false

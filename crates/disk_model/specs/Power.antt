@@ -33,7 +33,7 @@ abbrev pub tear_of_read : Option CutAt → ℕ → Option Tear
 tear_of_read (Some (cut.Read k t)) n = if k == n then Some t else None
 tear_of_read _ n = None
 
--- with the power off nothing goes; a call that is to be cut is cut, also where it is to fail
+-- what comes of a call: no power comes before an armed cut, and that before a listed failure
 abbrev pub step_of : Bool → Option Tear → Bool → Step
 step_of false _ _ = IsOff
 step_of true (Some t) _ = IsCut t

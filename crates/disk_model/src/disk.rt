@@ -1,5 +1,5 @@
 // A disk whose power may be cut inside any call: what a read gives, and what a cut may leave.
-// Between two successful syncs each written range may hold any bytes after a cut; no other byte changes.
+// What was written since the device last confirmed it is lost to a cut, or kept, or neither; the rest is safe.
 ghost use Rattle.std.specs.Prelude.{◌≡◌, ◌≤◌, ◌+◌, length, IsTrue, IsSome};
 ghost use Rattle.disk_model.specs.Disk.{DiskState, Reads, Writes, Syncs, Arms, Restarts, IsSound};
 
@@ -16,13 +16,13 @@ pub enum DiskFault {
 /// those of the write being cut.
 #[derive(Clone, Copy, Debug, PartialEq, Eq)]
 pub enum Tear {
-    /// Each has its value at the last successful sync.
+    /// They are lost, so that the bytes of that sync are back.
     Old,
-    /// Each has its written value.
+    /// They are kept.
     New,
-    /// So many bytes of the write being cut are written and none of its rest; earlier writes are whole.
+    /// The write being cut got so many bytes far; those before it are kept whole.
     Front(u16),
-    /// Each is this byte.
+    /// They all read as this byte.
     Fill(u8),
 }
 
@@ -39,12 +39,12 @@ pub enum CutAt {
 pub trait Disk: Send + Drop {
     ghost state: { Self → DiskState };
 
-    /// Fills `buf` with the bytes from `at` on. Bytes past the end read as 0.
+    /// Reads as many bytes as `buf` holds. The disk is followed by zeros, so a read may pass its end.
     fn read_at(&mut self, at: u64, buf: &mut [u8]) -> Result<(), DiskFault>
         ensures { Reads at (length buf.old) (state self.old) (state self.new) buf.new result };
 
-    /// Writes `bytes` from `at` on. After a failure reads of this range may give other bytes, the
-    /// same at each read, until it is written again or the power is turned on anew.
+    /// Writes `bytes` from `at` on. After a failure a read of the range may give other bytes, which only
+    /// a later write or `restart` settles; a cut may tear the range until a sync is Ok or a `restart`.
     fn write_at(&mut self, at: u64, bytes: &[u8]) -> Result<(), DiskFault>
         requires { at + length bytes.now ≤ (state self.old).meter.size }
         ensures { Writes at bytes.now (state self.old) (state self.new) result };
@@ -58,7 +58,7 @@ pub trait Disk: Send + Drop {
         requires { IsSome cut → IsTrue (state self.old).meter.can_cut }
         ensures { Arms cut (state self.old) (state self.new) };
 
-    /// Turns the power on over one of the images.
+    /// Begins again, after a cut or without one: one of the images becomes what a read gives.
     fn restart(&mut self)
         ensures { Restarts (state self.old) (state self.new) };
 

@@ -23,12 +23,13 @@ impl MemoryDisk {
     ghost use Rattle.disk_model.specs.Contents.{IsSettled};
     ghost use Rattle.disk_model.specs.Memory.{state_of};
 
-    /// A disk of zeros. A pair of `fails` is a life and the number of a write or sync in it that
-    /// fails; life 0 ends at the first `arm`, and each `arm` begins the next.
+    /// A disk of zeros on which these calls fail: `(2, 5)` is the fifth write or sync between the
+    /// second and the third `arm`, and `(0, 1)` the first one of all.
     pub fn new(alloc: Global, size: u64, fails: Vec<(u16, u32)>) -> Result<MemoryDisk, AllocError>
         ensures tells { IfOk result (λ disk. (state_of disk).tells ≡ true) }
         ensures zeros { IfOk result (λ disk. IsZeros (state_of disk).seen) }
         ensures only { IfOk result (λ disk. Only (state_of disk).seen (state_of disk).images) }
+        ensures settled { IfOk result (λ disk. IsSettled disk.contents) }
         ensures meter { IfOk result (λ disk. (state_of disk).meter ≡ new_meter size true) }
         ensures power { IfOk result (λ disk. disk.power ≡ new_power fails) }
     {

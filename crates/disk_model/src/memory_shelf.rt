@@ -39,8 +39,8 @@ impl MemoryShelf {
     ghost use Rattle.disk_model.specs.Memory.{state_of as disk_state_of};
     ghost use Rattle.disk_model.specs.MemoryShelf.{state_of, Keeps};
 
-    /// A shelf that gives `kept` at its first `open`, unless `open_fails`. The first disk that its
-    /// `memory` gives has these `fails`.
+    /// A shelf with at most one disk to open, `kept`, which is handed out once; with `open_fails` it is
+    /// never handed out. `fails` go to the disk that `memory` makes first, as for [`MemoryDisk::new`].
     pub fn new(
         alloc: Global,
         kept: Option<MemoryDisk>,
@@ -101,6 +101,7 @@ impl Shelf for MemoryShelf {
     ghost use Rattle.disk_model.specs.Shelf.{MemoryCall, OpenCall, AfterShelf, SameShelf, IsZeroDisk, IsStored};
     ghost use Rattle.disk_model.specs.declared.shelf.ShelfFault.TheVariants as fault;
     ghost use Rattle.disk_model.specs.Power.{new_power, renewed};
+    ghost use Rattle.disk_model.specs.Contents.{IsSettled};
     ghost use Rattle.disk_model.specs.Memory.{state_of as disk_state_of};
     ghost use Rattle.disk_model.specs.MemoryShelf.{state_of, Keeps};
 
@@ -110,6 +111,7 @@ impl Shelf for MemoryShelf {
 
     fn memory(&mut self, alloc: Global, size: u64) -> Result<MemoryDisk, ShelfFault>
         ensures gives { IfOk result (λ disk. IsZeroDisk size (disk_state_of disk)) }
+        ensures settled { IfOk result (λ disk. IsSettled disk.contents) }
         ensures call { AfterShelf MemoryDisk (λ ok. MemoryCall size ok) (state_of self.old) (state_of self.new) result }
         ensures stored { SameShelf (state_of self.old) (state_of self.new) }
         ensures kept { self.new.kept ≡ self.old.kept }

@@ -59,6 +59,20 @@ fn a_cut_leaves_the_image_of_its_tear(rt: HostRuntime) -> Result<(), Fail> {
     Ok(())
 }
 
+/// What was synced last on a new disk is zeros.
+#[test]
+fn a_cut_of_the_first_write_leaves_zeros(rt: HostRuntime) -> Result<(), Fail> {
+    let alloc = rt.alloc();
+    let mut disk = MemoryDisk::new(alloc, 2, Vec::new(alloc))?;
+    let mut got = [1; 2];
+    disk.arm(Some(CutAt::Change(1, Tear::Old)));
+    assert_eq!(rt; disk.write_at(0, &[5]), Err(DiskFault::Cut));
+    disk.restart();
+    assert_eq!(rt; disk.read_at(0, &mut got), Ok(()));
+    assert_eq!(rt; got, [0, 0]);
+    Ok(())
+}
+
 #[test]
 fn a_call_fails_by_its_life_and_number(rt: HostRuntime) -> Result<(), Fail> {
     let alloc = rt.alloc();
@@ -124,6 +138,27 @@ fn a_shelf_in_memory_gives_its_disk_once(rt: HostRuntime) -> Result<(), Fail> {
         broken.open(alloc, "store", 4, false).err(),
         Some(ShelfFault::Failed)
     );
+    Ok(())
+}
+
+/// A file that is not there is made only where that is asked, and then has zeros.
+#[test]
+fn a_shelf_over_files_makes_a_file(rt: HostRuntime) -> Result<(), Fail> {
+    let path = "file_that_a_shelf_makes";
+    let mut shelf = FileShelf::new(&rt);
+    let mut got = [1; 3];
+    assert_eq!(rt;
+        shelf.open(rt.alloc(), path, 2, false).err(),
+        Some(ShelfFault::Failed)
+    );
+    let mut made = shelf.open(rt.alloc(), path, 2, true)?;
+    assert_eq!(rt; made.read_at(0, &mut got), Ok(()));
+    assert_eq!(rt; got, [0, 0, 0]);
+    assert_eq!(rt; made.write_at(1, &[7]), Ok(()));
+    let mut again = shelf.open(rt.alloc(), path, 2, true)?;
+    assert_eq!(rt; again.read_at(0, &mut got), Ok(()));
+    assert_eq!(rt; got, [0, 7, 0]);
+    fs::remove_file(&rt, path)?;
     Ok(())
 }
 

@@ -1,10 +1,10 @@
 -- The calls of open_spare, and those of resolve.
-use Rattle.std.proofs.Common.{◌≡◌, ◌⊎◌, ℕ, ◌*◌, ◌≤◌, List, [], ◌∷◌, true, false, Ok, arith}
+use Rattle.std.proofs.Common.{◌≡◌, ◌⊎◌, ℕ, ◌*◌, ◌+◌, ◌≤◌, List, [], ◌∷◌, true, false, Bool, IsTrue, Ok, ap, arith}
 use Rattle.disk_model.specs.Disk.{DiskState, IsSound, Writes, Syncs}
 use Rattle.disk_model.specs.Every.{Every, every_weaker, every_write, every_sync, every_kept, Run, run_start, run_write, run_sync}
 use Rattle.gated_cell.specs.declared.cell.GatedCell.{GatedCell}
-use Rattle.gated_cell.specs.Cell.{spare_at, spare_of, stored, staged, held, Fits, Known, Staged, IsEither, in_force, next_of, opened}
-use Rattle.gated_cell.specs.Slots.{fits_opened, fits_resolved, either_gate, either_held}
+use Rattle.gated_cell.specs.Cell.{InForce, spare_at, spare_of, stored, staged, held, Fits, Known, Staged, IsEither, in_force, next_of, opened, SameChoice}
+use Rattle.gated_cell.specs.Slots.{fits_opened, fits_resolved, either_gate, either_held, says_stored}
 use Rattle.gated_cell.proofs.Closing.{spare_low, spare_high}
 
 module _ (cell : GatedCell) (nine : 9 ≤ cell.place.slot_bytes) (old : DiskState) where
@@ -25,6 +25,13 @@ module _ (cell : GatedCell) (nine : 9 ≤ cell.place.slot_bytes) (old : DiskStat
   at_first known has = record {
     reads = λ told. record { force = (known.reads told).force; spare = has.reads told };
     images = λ c left. record { force = (known.images c left).force; spare = has.images c left };
+  }
+
+  -- neither payload changed
+  pub same_choice : (doubt : Bool) (new : DiskState) → Every E new → IsTrue new.tells → SameChoice cell old (record cell { doubt = doubt }) new
+  same_choice doubt new every told = record {
+    in_force = says_stored cell.place cell.in_force cell.generation (stored cell old.seen) new.seen (every.reads told).force;
+    next = ap (λ (p : List ℕ). InForce (spare_of cell.in_force) (cell.generation + 1) p) (every.reads told).spare.payload;
   }
 
   module _ (sound : IsSound old) (first : Every E old) (byte : ℕ) where

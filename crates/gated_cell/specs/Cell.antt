@@ -121,6 +121,11 @@ Doubtful cell disk = Every (IsEither cell (stored cell disk.seen) (staged cell d
 abbrev pub next_of : GatedCell → DiskState → Held
 next_of cell disk = InForce (spare_of cell.in_force) (cell.generation + 1) (staged cell disk.seen)
 
+-- what is in force, and what would be in force next, did not change
+pub record SameChoice (cell : GatedCell) (old : DiskState) (now : GatedCell) (new : DiskState) : Type 0 where
+  pub in_force : in_force now new ≡ in_force cell old
+  pub next : next_of now new ≡ next_of cell old
+
 -- the cell after it
 abbrev pub opened : GatedCell → GatedCell
 opened cell = record { place = cell.place; in_force = Some (spare_of cell.in_force); generation = cell.generation + 1; spare_closed = is_none cell.in_force; doubt = false }

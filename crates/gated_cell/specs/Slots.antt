@@ -146,7 +146,7 @@ known_again cell payload disk sound every = record {
   images = λ c left. fits_stored cell payload disk.seen c (every.reads (sound.told c left)) (every.images c left);
 }
 
-says_stored : (place : CellPlace) (in_force : Option Bool) (generation : ℕ) (payload image : List ℕ) → HasForce place in_force generation payload image
+pub says_stored : (place : CellPlace) (in_force : Option Bool) (generation : ℕ) (payload image : List ℕ) → HasForce place in_force generation payload image
     → holds_in in_force generation (stored_in place in_force image) ≡ holds_in in_force generation payload
 says_stored place None generation payload image force = refl
 says_stored place (Some second) generation payload image force = ap (λ (p : List ℕ). InForce second generation p) force.2

@@ -1,13 +1,13 @@
 // The calls of a cell. Each is a few calls of the disk, after any of which the power may be cut: at each moment
 // what a restart finds holds the payload in force or, once the gate is being opened, the next one.
-ghost use Rattle.std.specs.Prelude.{◌≡◌, ◌+◌, ◌*◌, ◌≤◌, ◌<◌, ◌^◌, ◌-◌, ◌⊎◌, ◌++◌, [], ◌∷◌, length, false, true, is_some, if◌then◌else◌, IsTrue, IfOk, IfErr, OnOk, OnErr, IsErrOf, Err};
+ghost use Rattle.std.specs.Prelude.{◌≡◌, ◌+◌, ◌*◌, ◌≤◌, ◌<◌, ◌^◌, ◌-◌, ◌⊎◌, ◌++◌, [], ◌∷◌, length, false, true, is_some, if◌then◌else◌, IsTrue, IfOk, IfErr, OnOk, OnErr, IsErrOf, Err, None};
 ghost use Rattle.std.specs.Int.{to_le_bytes, w64};
 ghost use Rattle.disk_model.specs.Disk.{Writes, Only, Still, Elapses};
 ghost use Rattle.disk_model.specs.Every.{Steady};
 ghost use Rattle.disk_model.specs.Meters.{Uncut};
 ghost use Rattle.gated_cell.specs.declared.fault.CellFault.TheVariants as cell_fault;
-ghost use Rattle.gated_cell.specs.Cell.{spare_at, spare_of, held, Known, Settled, Staged, staged, Doubtful, in_force, next_of, opened, given, AtEachMoment};
-ghost use Rattle.gated_cell.specs.Refusals.{Refused, NotOpened, NotClosed};
+ghost use Rattle.gated_cell.specs.Cell.{spare_at, spare_of, held, Known, Settled, Staged, staged, Doubtful, SameChoice, in_force, next_of, opened, given, AtEachMoment};
+ghost use Rattle.gated_cell.specs.Refusals.{Refused, NotOpened, NotClosed, Asks};
 
 use crate::fault::is_failed;
 use crate::reading::open_through;
@@ -31,8 +31,8 @@ pub struct GatedCell {
 }
 
 impl GatedCell {
-    /// Reads the cell at `place` by one read of each slot, and the payload in force into `payload`, which stays
-    /// as it is where none is. Twins comes from here alone.
+    /// Finds the cell at `place` by one read of each slot, and copies the payload in force, if any, into
+    /// `payload`. No other call answers Twins.
     pub fn open<D: Disk>(
         disk: &mut D,
         place: CellPlace,
@@ -48,11 +48,14 @@ impl GatedCell {
         ensures known { IfOk result (λ cell. Known cell (D.state disk.new)) }
         ensures held { IfOk result (λ cell. IsTrue (D.state disk.old).tells → held place (D.state disk.old).seen ≡ in_force cell (D.state disk.new)) }
         ensures payload { IfOk result (λ cell. IsTrue (D.state disk.old).tells → payload.new ≡ given cell payload.old (D.state disk.old).seen) }
+        ensures untouched { IfOk result (λ cell. cell.in_force ≡ None → payload.new ≡ payload.old) }
         ensures kept { OnErr result (payload.new ≡ payload.old) }
         ensures still { Still (D.state disk.old) (D.state disk.new) }
         ensures time { Elapses (D.state disk.old) (D.state disk.new) }
         ensures steady { Steady (D.state disk.old).meter (D.state disk.new).meter }
         ensures calls { OnOk result (Uncut 0 2 (D.state disk.old).meter (D.state disk.new).meter) }
+        ensures no_fault { OnOk result ((D.state disk.new).meter.faults ≡ (D.state disk.old).meter.faults) }
+        ensures asked { Asks 0 2 (D.state disk.old).meter (D.state disk.new).meter result }
         ensures refused { IfErr result (NotOpened place (D.state disk.old) (D.state disk.new)) }
     {
         let n = place.slot_bytes as usize;
@@ -189,6 +192,7 @@ impl GatedCell {
     pub fn close_spare<D: Disk>(&mut self, disk: &mut D) -> Result<(), CellFault>
         requires room { self.old.place.at + 2 * self.old.place.slot_bytes ≤ (D.state disk.old).meter.size }
         requires slot { 9 ≤ self.old.place.slot_bytes }
+        requires calm { self.old.doubt ≡ false }
         requires known { Known self.old (D.state disk.old) }
 
         ensures below { OnOk result (self.old.generation + 1 < 2 ^ 64) }
@@ -199,6 +203,8 @@ impl GatedCell {
         ensures durable { OnOk result (Only (D.state disk.new).seen (D.state disk.new).images) }
         ensures any_moment { AtEachMoment self.old.place (D.state disk.old) (D.state disk.new) (λ h. h ≡ in_force self.old (D.state disk.old)) }
         ensures calls { OnOk result (Uncut 2 0 (D.state disk.old).meter (D.state disk.new).meter) }
+        ensures no_fault { OnOk result ((D.state disk.new).meter.faults ≡ (D.state disk.old).meter.faults) }
+        ensures asked { self.old.generation + 1 < 2 ^ 64 → Asks 2 0 (D.state disk.old).meter (D.state disk.new).meter result }
         ensures refused { IfErr result (NotClosed self.old.generation (D.state disk.old).meter (D.state disk.new).meter) }
         ensures spent { self.old.generation ≡ 2 ^ 64 - 1 → (result ≡ Err (cell_fault.Spent self.old.generation)) × (disk.new ≡ disk.old) }
     {
@@ -215,6 +221,7 @@ impl GatedCell {
     pub fn write_spare<D: Disk>(&mut self, disk: &mut D, payload: &[u8]) -> Result<(), CellFault>
         requires room { self.old.place.at + 2 * self.old.place.slot_bytes ≤ (D.state disk.old).meter.size }
         requires slot { 9 ≤ self.old.place.slot_bytes }
+        requires calm { self.old.doubt ≡ false }
         requires length { length payload.now ≡ self.old.place.slot_bytes - 9 }
         requires below { self.old.generation + 1 < 2 ^ 64 }
         requires closed { IsTrue self.old.spare_closed }
@@ -228,6 +235,8 @@ impl GatedCell {
         ensures durable { OnOk result (Only (D.state disk.new).seen (D.state disk.new).images) }
         ensures any_moment { AtEachMoment self.old.place (D.state disk.old) (D.state disk.new) (λ h. h ≡ in_force self.old (D.state disk.old)) }
         ensures calls { OnOk result (Uncut 2 0 (D.state disk.old).meter (D.state disk.new).meter) }
+        ensures no_fault { OnOk result ((D.state disk.new).meter.faults ≡ (D.state disk.old).meter.faults) }
+        ensures asked { Asks 2 0 (D.state disk.old).meter (D.state disk.new).meter result }
         ensures refused { IfErr result (Refused 2 0 (D.state disk.old).meter (D.state disk.new).meter) }
     {
         self.put_next(disk, payload)?;
@@ -235,11 +244,12 @@ impl GatedCell {
         Ok(())
     }
 
-    /// Opens the spare gate, the last step of a change, which puts the next payload in force. After Failed
-    /// the cell is in doubt: a restart may find either payload until `resolve` is Ok.
+    /// Opens the spare gate, the last step of a change, which puts the next payload in force. Failed
+    /// leaves the cell in doubt: a restart may find either payload until `resolve` is Ok.
     pub fn open_spare<D: Disk>(&mut self, disk: &mut D) -> Result<(), CellFault>
         requires room { self.old.place.at + 2 * self.old.place.slot_bytes ≤ (D.state disk.old).meter.size }
         requires slot { 9 ≤ self.old.place.slot_bytes }
+        requires calm { self.old.doubt ≡ false }
         requires below { self.old.generation + 1 < 2 ^ 64 }
         requires known { Known self.old (D.state disk.old) }
         requires staged { Staged self.old (D.state disk.old) }
@@ -250,10 +260,13 @@ impl GatedCell {
         ensures doubt { IsErrOf result cell_fault.Failed → self.new ≡ record self.old { doubt = true } }
         ensures cut { IsErrOf result cell_fault.Cut → self.new ≡ record self.old { doubt = false } }
         ensures doubtful { OnErr result (Doubtful self.new (D.state disk.new)) }
+        ensures both { OnErr result (IsTrue (D.state disk.new).tells → SameChoice self.old (D.state disk.old) self.new (D.state disk.new)) }
         ensures durable { OnOk result (Only (D.state disk.new).seen (D.state disk.new).images) }
         ensures any_moment { AtEachMoment self.old.place (D.state disk.old) (D.state disk.new)
             (λ h. (h ≡ in_force self.old (D.state disk.old)) ⊎ (h ≡ next_of self.old (D.state disk.old))) }
         ensures calls { OnOk result (Uncut 2 0 (D.state disk.old).meter (D.state disk.new).meter) }
+        ensures no_fault { OnOk result ((D.state disk.new).meter.faults ≡ (D.state disk.old).meter.faults) }
+        ensures asked { Asks 2 0 (D.state disk.old).meter (D.state disk.new).meter result }
         ensures refused { IfErr result (Refused 2 0 (D.state disk.old).meter (D.state disk.new).meter) }
     {
         match self.write_gate(disk, OPEN) {
@@ -274,10 +287,11 @@ impl GatedCell {
         Ok(())
     }
 
-    /// Closes the gate that is in doubt, so that the old payload stays in force. After Failed the doubt stays.
+    /// Closes the gate that is in doubt, so that the old payload stays in force. Failed leaves the doubt as it is.
     pub fn resolve<D: Disk>(&mut self, disk: &mut D) -> Result<(), CellFault>
         requires room { self.old.place.at + 2 * self.old.place.slot_bytes ≤ (D.state disk.old).meter.size }
         requires slot { 9 ≤ self.old.place.slot_bytes }
+        requires doubt { self.old.doubt ≡ true }
         requires doubtful { Doubtful self.old (D.state disk.old) }
 
         ensures resolved { OnOk result (self.new ≡ record self.old { spare_closed = true; doubt = false }) }
@@ -285,10 +299,13 @@ impl GatedCell {
         ensures same { OnOk result (IsTrue (D.state disk.new).tells → in_force self.new (D.state disk.new) ≡ in_force self.old (D.state disk.old)) }
         ensures err { OnErr result (self.new ≡ self.old) }
         ensures doubtful { OnErr result (Doubtful self.new (D.state disk.new)) }
+        ensures both { OnErr result (IsTrue (D.state disk.new).tells → SameChoice self.old (D.state disk.old) self.new (D.state disk.new)) }
         ensures durable { OnOk result (Only (D.state disk.new).seen (D.state disk.new).images) }
         ensures any_moment { AtEachMoment self.old.place (D.state disk.old) (D.state disk.new)
             (λ h. (h ≡ in_force self.old (D.state disk.old)) ⊎ (h ≡ next_of self.old (D.state disk.old))) }
         ensures calls { OnOk result (Uncut 2 0 (D.state disk.old).meter (D.state disk.new).meter) }
+        ensures no_fault { OnOk result ((D.state disk.new).meter.faults ≡ (D.state disk.old).meter.faults) }
+        ensures asked { Asks 2 0 (D.state disk.old).meter (D.state disk.new).meter result }
         ensures refused { IfErr result (Refused 2 0 (D.state disk.old).meter (D.state disk.new).meter) }
     {
         self.write_gate(disk, CLOSED)?;

@@ -5,7 +5,7 @@ ghost use Rattle.gated_cell.specs.declared.fault.CellFault.TheVariants as cell_f
 
 use disk_model::DiskFault;
 
-/// The faults of a cell, and what they are of the faults of a disk.
+/// Why a call of a cell was not done.
 #[derive(Clone, Copy, Debug, PartialEq, Eq)]
 pub enum CellFault {
     /// The disk refused a call.

@@ -1,10 +1,10 @@
 // How a cell is opened: both slots are read, and their gates and generations tell which is in force.
-ghost use Rattle.std.specs.Prelude.{◌≡◌, ◌+◌, ◌*◌, ◌≤◌, ◌<◌, ◌^◌, ◌-◌, ◌↔◌, length, false, IsTrue, IfOk, IfErr, OnOk, OnErr};
+ghost use Rattle.std.specs.Prelude.{◌≡◌, ◌+◌, ◌*◌, ◌≤◌, ◌<◌, ◌^◌, ◌-◌, ◌↔◌, length, false, IsTrue, IfOk, IfErr, OnOk, OnErr, None};
 ghost use Rattle.disk_model.specs.Disk.{Still, Elapses};
 ghost use Rattle.disk_model.specs.Every.{Steady};
 ghost use Rattle.disk_model.specs.Meters.{Uncut};
 ghost use Rattle.gated_cell.specs.Cell.{held, Known, Settled, in_force, chosen, given, payload_of};
-ghost use Rattle.gated_cell.specs.Refusals.{NotOpened};
+ghost use Rattle.gated_cell.specs.Refusals.{NotOpened, Asks};
 
 use crate::slot::{HEAD_BYTES, generation_in, is_open};
 use crate::{CellFault, CellPlace, GatedCell};
@@ -77,11 +77,14 @@ pub fn open_through<D: Disk>(
     ensures known { IfOk result (λ cell. Known cell (D.state disk.new)) }
     ensures held { IfOk result (λ cell. IsTrue (D.state disk.old).tells → held place (D.state disk.old).seen ≡ in_force cell (D.state disk.new)) }
     ensures payload { IfOk result (λ cell. IsTrue (D.state disk.old).tells → payload.new ≡ given cell payload.old (D.state disk.old).seen) }
+    ensures untouched { IfOk result (λ cell. cell.in_force ≡ None → payload.new ≡ payload.old) }
     ensures kept { OnErr result (payload.new ≡ payload.old) }
     ensures still { Still (D.state disk.old) (D.state disk.new) }
     ensures time { Elapses (D.state disk.old) (D.state disk.new) }
     ensures steady { Steady (D.state disk.old).meter (D.state disk.new).meter }
     ensures calls { OnOk result (Uncut 0 2 (D.state disk.old).meter (D.state disk.new).meter) }
+    ensures no_fault { OnOk result ((D.state disk.new).meter.faults ≡ (D.state disk.old).meter.faults) }
+    ensures asked { Asks 0 2 (D.state disk.old).meter (D.state disk.new).meter result }
     ensures refused { IfErr result (NotOpened place (D.state disk.old) (D.state disk.new)) }
 {
     disk.read_at(place.at, first)?;

@@ -4,7 +4,7 @@ ghost use Rattle.disk_model.specs.Disk.{Only};
 ghost use Rattle.disk_model.specs.Memory.{state_of};
 
 use crate::{CellFault, CellPlace, GatedCell};
-use disk_model::{CutAt, Disk, MemoryDisk, Tear};
+use disk_model::{CutAt, Disk, DiskFault, MemoryDisk, Tear};
 use std::alloc::{AllocError, Global};
 use std::test::Fail;
 
@@ -54,8 +54,11 @@ fn change<D: Disk>(disk: &mut D) -> Result<(), CellFault>
     cell.open_spare(disk)
 }
 
-/// Tries the same, resolves a doubt, and tells whether there was one and whether there is one still.
-fn change_and_resolve<D: Disk>(disk: &mut D) -> Result<[bool; 2], CellFault>
+/// Tries the same, resolves a doubt, and tells what the last step answered, whether there was a doubt, and
+/// whether there is one still.
+fn change_and_resolve<D: Disk>(
+    disk: &mut D,
+) -> Result<(Result<(), CellFault>, [bool; 2]), CellFault>
     requires size { (D.state disk.old).meter.size ≡ 32 }
     requires only { Only (D.state disk.old).seen (D.state disk.old).images }
     ensures size { (D.state disk.new).meter.size ≡ 32 }
@@ -65,14 +68,13 @@ fn change_and_resolve<D: Disk>(disk: &mut D) -> Result<[bool; 2], CellFault>
     let mut cell = GatedCell::open(disk, PLACE, &mut payload)?;
     cell.close_spare(disk)?;
     cell.write_spare(disk, &NEXT)?;
-    match cell.open_spare(disk) {
-        Ok(()) => Ok([cell.in_doubt(), cell.in_doubt()]),
-        Err(_) => {
-            let before = cell.in_doubt();
-            cell.resolve(disk)?;
-            Ok([before, cell.in_doubt()])
-        }
+    let opened = cell.open_spare(disk);
+    let before = cell.in_doubt();
+    match opened {
+        Err(CellFault::Failed) => cell.resolve(disk)?,
+        _ => {}
     }
+    Ok((opened, [before, cell.in_doubt()]))
 }
 
 /// The payload in force.
@@ -119,14 +121,33 @@ fn a_cut_leaves_the_old_payload_or_the_next(rt: HostRuntime) -> Result<(), Fail>
 }
 
 #[test]
+fn a_change_stops_at_its_first_call_that_fails(rt: HostRuntime) -> Result<(), Fail> {
+    let alloc = rt.alloc();
+    for call in 1..7 {
+        let fails = vec![in alloc; (1, call), (1, call + 1)]?;
+        let mut disk = disk_with(alloc, fails, 1, 0)?;
+        disk.arm(None);
+        assert_eq!(rt; change(&mut disk), Err(CellFault::Failed), "{call}");
+        // The change asked nothing more, so this is the call behind.
+        assert_eq!(rt; disk.sync(), Err(DiskFault::Failed), "{call}");
+    }
+    Ok(())
+}
+
+#[test]
 fn a_gate_that_failed_to_open_is_in_doubt_until_it_is_resolved(
     rt: HostRuntime,
 ) -> Result<(), Fail> {
     let alloc = rt.alloc();
-    let fails = vec![in alloc; (1, 5)]?;
+    let fails = vec![in alloc; (1, 5), (1, 8)]?;
     let mut disk = disk_with(alloc, fails, 1, 0)?;
     disk.arm(None);
-    assert_eq!(rt; change_and_resolve(&mut disk), Ok([true, false]));
+    assert_eq!(rt;
+        change_and_resolve(&mut disk),
+        Ok((Err(CellFault::Failed), [true, false]))
+    );
+    // It made the sixth call and the seventh.
+    assert_eq!(rt; disk.sync(), Err(DiskFault::Failed));
     disk.restart();
     assert_eq!(rt; payload_in(&mut disk), Ok(OLD));
     // The closed gate before the refused payload is not written again, so that no tear opens it.

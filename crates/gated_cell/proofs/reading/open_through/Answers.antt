@@ -3,7 +3,7 @@ use Rattle.std.proofs.lemmas.Bool.{false≢true}
 use Rattle.disk_model.specs.Every.{told_after}
 use Rattle.gated_cell.specs.declared.place.CellPlace.{CellPlace}
 use Rattle.gated_cell.specs.Cell.{held, stored, Settled, Fits}
-use Rattle.gated_cell.proofs.Counting.{if_err, refused_read, refused_reread, read_both}
+use Rattle.gated_cell.proofs.Counting.{if_err, refused_read, refused_reread, read_both, calm_reads, asks_read, asks_reread}
 use Rattle.gated_cell.proofs.Found.{found, found_twins, found_fits, settled_known, settled_held, not_opened}
 use Rattle.gated_cell.proofs.reading.open_through.Goals as goal
 
@@ -66,3 +66,37 @@ returns-clause-held g c =
     c.is_open.ensures c.generation_in.ensures c.is_open-2.ensures c.generation_in-2.ensures) (λ twins. false≢true (sym c.if-are_twins.false ∙ c.are_twins.ensures.1 twins)) c.choose-cell.ensures.chosen in
     λ told. ap (λ (p : CellPlace). held p old.seen) (sym c.choose-cell.ensures.place)
     ∙ settled_held cell old.seen new.seen (c.read_at-2.ensures.still.seen ∙ c.read_at.ensures.still.seen) (fits told)
+
+pub returns-in_err-read_at-clause-asked : goal.returns-in_err-read_at-clause-asked
+returns-in_err-read_at-clause-asked g c =
+    let old = g.D.Disk.state c.args.disk.now in
+    let mid = g.D.Disk.state c.read_at.new.self in
+    asks_read c.from_residual.result c.in_err-read_at.field-0.0 old.meter mid.meter c.in_err-read_at.ensures.meter c.from_residual.ensures.1
+
+pub returns-in_err-read_at-2-clause-asked : goal.returns-in_err-read_at-2-clause-asked
+returns-in_err-read_at-2-clause-asked g c =
+    let old = g.D.Disk.state c.args.disk.now in
+    let mid = g.D.Disk.state c.read_at.new.self in
+    let new = g.D.Disk.state c.read_at-2.new.self in
+    asks_reread c.from_residual-in_err-read_at-2.result _ old.meter mid.meter new.meter _ c.in_ok-read_at.ensures.meter c.in_err-read_at-2.ensures.meter
+
+pub returns-then-are_twins-clause-asked : goal.returns-then-are_twins-clause-asked
+returns-then-are_twins-clause-asked g c =
+    let old = g.D.Disk.state c.args.disk.now in
+    let mid = g.D.Disk.state c.read_at.new.self in
+    let new = g.D.Disk.state c.read_at-2.new.self in
+    asks_reread _ _ old.meter mid.meter new.meter _ c.in_ok-read_at.ensures.meter c.in_ok-read_at-2.ensures.meter
+
+pub returns-clause-asked : goal.returns-clause-asked
+returns-clause-asked g c =
+    let old = g.D.Disk.state c.args.disk.now in
+    let mid = g.D.Disk.state c.read_at.new.self in
+    let new = g.D.Disk.state c.read_at-2.new.self in
+    asks_reread _ _ old.meter mid.meter new.meter _ c.in_ok-read_at.ensures.meter c.in_ok-read_at-2.ensures.meter
+
+pub returns-clause-no_fault : goal.returns-clause-no_fault
+returns-clause-no_fault g c =
+    let old = g.D.Disk.state c.args.disk.now in
+    let mid = g.D.Disk.state c.read_at.new.self in
+    let new = g.D.Disk.state c.read_at-2.new.self in
+    calm_reads old.meter mid.meter new.meter _ _ c.in_ok-read_at.ensures.meter c.in_ok-read_at-2.ensures.meter

@@ -4,7 +4,9 @@ use Rattle.std.proofs.Common.{ℕ, List, ap, sym, subst, ◌∙◌, ◌+◌}
 use Rattle.gated_cell.specs.declared.cell.GatedCell.{GatedCell}
 use Rattle.gated_cell.specs.Cell.{Known, in_force}
 use Rattle.gated_cell.proofs.Opening.{at_first, gate, gate_run, gate_sync, gate_sync_run, opened_kept}
-use Rattle.gated_cell.proofs.Counting.{refused_first, refused_second, made_both}
+use Rattle.gated_cell.proofs.Counting.{refused_first, refused_second, made_both, calm_both}
+use Rattle.gated_cell.proofs.Opening.{same_choice}
+use Rattle.gated_cell.proofs.Counting.{asks_first, asks_both}
 use Rattle.gated_cell.proofs.cell.GatedCell.open_spare.Goals as goal
 
 pub returns-in-Err-clause-doubtful : goal.returns-in-Err-clause-doubtful
@@ -110,3 +112,49 @@ returns-clause-calls g c =
     let mid = g.D.Disk.state c.write_gate.new.disk in
     let new = g.D.Disk.state c.sync.new.self in
     made_both old.meter mid.meter new.meter _ _ c.in-Ok.ensures.meter c.in-Ok-sync.ensures.meter
+
+pub returns-clause-no_fault : goal.returns-clause-no_fault
+returns-clause-no_fault g c =
+    let old = g.D.Disk.state c.args.disk.now in
+    let mid = g.D.Disk.state c.write_gate.new.disk in
+    let new = g.D.Disk.state c.sync.new.self in
+    calm_both old.meter mid.meter new.meter _ _ c.in-Ok.ensures.meter c.in-Ok-sync.ensures.meter
+
+pub returns-in-Err-clause-both : goal.returns-in-Err-clause-both
+returns-in-Err-clause-both g c =
+    let s = (g.met.D.Disk g.world.𝓛 g.world.𝓜 g.world.𝓡 ((λ s x. x), (λ x. x), (λ x. x), λ x. x)).sound in
+    let cell = c.args.self.now in
+    let nine = c.requires.slot in
+    let old = g.D.Disk.state c.args.disk.now in
+    let mid = g.D.Disk.state c.write_gate.new.disk in
+    same_choice cell nine old _ mid (gate cell nine old (s c.args.disk.now) (at_first cell nine old c.requires.known c.requires.staged) 165 mid _ c.write_gate.ensures)
+
+pub returns-in-Err-sync-clause-both : goal.returns-in-Err-sync-clause-both
+returns-in-Err-sync-clause-both g c =
+    let s = (g.met.D.Disk g.world.𝓛 g.world.𝓜 g.world.𝓡 ((λ s x. x), (λ x. x), (λ x. x), λ x. x)).sound in
+    let cell = c.args.self.now in
+    let nine = c.requires.slot in
+    let old = g.D.Disk.state c.args.disk.now in
+    let mid = g.D.Disk.state c.write_gate.new.disk in
+    let new = g.D.Disk.state c.sync.new.self in
+    same_choice cell nine old _ new (gate_sync cell nine old (s c.args.disk.now) (at_first cell nine old c.requires.known c.requires.staged) 165 mid new _ _ c.write_gate.ensures c.sync.ensures)
+
+pub returns-in-Err-clause-asked : goal.returns-in-Err-clause-asked
+returns-in-Err-clause-asked g c =
+    let old = g.D.Disk.state c.args.disk.now in
+    let mid = g.D.Disk.state c.write_gate.new.disk in
+    asks_first _ c.in-Err.refused old.meter mid.meter c.in-Err.ensures.meter c.into.ensures
+
+pub returns-in-Err-sync-clause-asked : goal.returns-in-Err-sync-clause-asked
+returns-in-Err-sync-clause-asked g c =
+    let old = g.D.Disk.state c.args.disk.now in
+    let mid = g.D.Disk.state c.write_gate.new.disk in
+    let new = g.D.Disk.state c.sync.new.self in
+    asks_both _ _ old.meter mid.meter new.meter _ c.in-Ok.ensures.meter c.in-Err-sync.ensures.meter
+
+pub returns-clause-asked : goal.returns-clause-asked
+returns-clause-asked g c =
+    let old = g.D.Disk.state c.args.disk.now in
+    let mid = g.D.Disk.state c.write_gate.new.disk in
+    let new = g.D.Disk.state c.sync.new.self in
+    asks_both _ _ old.meter mid.meter new.meter _ c.in-Ok.ensures.meter c.in-Ok-sync.ensures.meter

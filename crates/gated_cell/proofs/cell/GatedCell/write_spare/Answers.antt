@@ -2,7 +2,8 @@ use Rattle.gated_cell.specs.Slots.{known_again}
 use Rattle.gated_cell.specs.Cell.{stored}
 use Rattle.gated_cell.proofs.Closing.{same_force, cell_sync, sync_run}
 use Rattle.gated_cell.proofs.Writing.{putting, put_run, next_kept, staged_as}
-use Rattle.gated_cell.proofs.Counting.{if_err, refused_first, refused_second, made_both}
+use Rattle.gated_cell.proofs.Counting.{if_err, refused_first, refused_second, made_both, calm_both}
+use Rattle.gated_cell.proofs.Counting.{asks_first, asks_both}
 use Rattle.gated_cell.proofs.cell.GatedCell.write_spare.Goals as goal
 
 pub returns-in_err-put_next-clause-known : goal.returns-in_err-put_next-clause-known
@@ -160,3 +161,30 @@ returns-clause-calls g c =
     let mid = g.D.Disk.state c.put_next.new.disk in
     let new = g.D.Disk.state c.sync.new.self in
     made_both old.meter mid.meter new.meter _ _ c.in_ok-put_next.ensures.meter c.in_ok-sync.ensures.meter
+
+pub returns-clause-no_fault : goal.returns-clause-no_fault
+returns-clause-no_fault g c =
+    let old = g.D.Disk.state c.args.disk.now in
+    let mid = g.D.Disk.state c.put_next.new.disk in
+    let new = g.D.Disk.state c.sync.new.self in
+    calm_both old.meter mid.meter new.meter _ _ c.in_ok-put_next.ensures.meter c.in_ok-sync.ensures.meter
+
+pub returns-in_err-put_next-clause-asked : goal.returns-in_err-put_next-clause-asked
+returns-in_err-put_next-clause-asked g c =
+    let old = g.D.Disk.state c.args.disk.now in
+    let mid = g.D.Disk.state c.put_next.new.disk in
+    asks_first c.from_residual.result c.in_err-put_next.field-0.0 old.meter mid.meter c.in_err-put_next.ensures.meter c.from_residual.ensures.1
+
+pub returns-in_err-sync-clause-asked : goal.returns-in_err-sync-clause-asked
+returns-in_err-sync-clause-asked g c =
+    let old = g.D.Disk.state c.args.disk.now in
+    let mid = g.D.Disk.state c.put_next.new.disk in
+    let new = g.D.Disk.state c.sync.new.self in
+    asks_both c.from_residual-in_err-sync.result _ old.meter mid.meter new.meter _ c.in_ok-put_next.ensures.meter c.in_err-sync.ensures.meter
+
+pub returns-clause-asked : goal.returns-clause-asked
+returns-clause-asked g c =
+    let old = g.D.Disk.state c.args.disk.now in
+    let mid = g.D.Disk.state c.put_next.new.disk in
+    let new = g.D.Disk.state c.sync.new.self in
+    asks_both _ _ old.meter mid.meter new.meter _ c.in_ok-put_next.ensures.meter c.in_ok-sync.ensures.meter
