@@ -1,0 +1,10 @@
+pub mod Fields
+pub mod FieldLaws
+pub mod Item
+pub mod ItemLaws
+pub mod State
+pub mod StateLaws
+pub mod Mark
+pub mod MarkLaws
+pub mod Places
+pub mod PlaceLaws

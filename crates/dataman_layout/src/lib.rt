@@ -1,0 +1,16 @@
+//! The records of the store as bytes, and the places where they stand. A record and its bytes correspond one to one:
+//! what is no record's bytes is read as none.
+#![tactic(auto)]
+
+mod fields;
+mod item;
+mod mark;
+pub mod places;
+mod state;
+
+pub use item::{Record, decode_item, encode_item};
+pub use mark::{decode_mark, encode_mark};
+pub use state::{decode_state, encode_state};
+
+#[cfg(test)]
+mod tests;
