@@ -1,0 +1,6 @@
+pub mod Places
+pub mod LandStartFault
+pub mod JumpTargets
+pub mod LoitersLeft
+pub mod Joined
+pub mod Answered

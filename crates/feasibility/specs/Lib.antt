@@ -1,0 +1,5 @@
+pub mod SoFar
+pub mod Verdicts
+pub mod Parts
+pub mod Judged
+pub mod AtPlace

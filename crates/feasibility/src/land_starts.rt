@@ -1,0 +1,61 @@
+//! The land starts of a mission so far, and the landing of the first one.
+
+ghost use Rattle.std.specs.Prelude.{◌≡◌};
+
+use crate::faults::or_place;
+use crate::item_rules::{is_land_start, is_landing};
+use mission_model::Item;
+
+/// The first land start, the second one, and the first one with the first landing after it.
+#[derive(Clone, Copy)]
+pub struct LandStarts {
+    pub first: Option<u16>,
+    pub second: Option<u16>,
+    pub landing: Option<(u16, u16)>,
+}
+
+impl LandStarts {
+    ghost use Rattle.feasibility.specs.SoFar.{no_land_starts, land_starts_with, landing_with, fault_of};
+
+    pub fn new() -> LandStarts
+        ensures { result ≡ no_land_starts }
+    {
+        LandStarts {
+            first: None,
+            second: None,
+            landing: None,
+        }
+    }
+
+    /// The same of the mission with one more item, which stands at this place.
+    pub fn with(self, place: u16, item: &Item) -> LandStarts
+        ensures { result ≡ land_starts_with self place item.now }
+    {
+        let starts = is_land_start(item);
+        LandStarts {
+            first: or_place(self.first, starts, place),
+            second: or_place(self.second, starts && self.first.is_some(), place),
+            landing: self.landing_with(place, item),
+        }
+    }
+
+    fn landing_with(self, place: u16, item: &Item) -> Option<(u16, u16)>
+        ensures { result ≡ landing_with self.landing self.first place item.now }
+    {
+        match (self.landing, self.first) {
+            (None, Some(start)) if is_landing(item) => Some((start, place)),
+            _ => self.landing,
+        }
+    }
+
+    /// The first land start at fault: one without a landing after it, or the second one.
+    pub fn fault(self) -> Option<u16>
+        ensures { result ≡ fault_of self }
+    {
+        if self.landing.is_some() {
+            self.second
+        } else {
+            self.first
+        }
+    }
+}
