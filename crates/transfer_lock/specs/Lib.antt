@@ -1,0 +1,2 @@
+pub mod TransferState
+pub mod TransferLaw
