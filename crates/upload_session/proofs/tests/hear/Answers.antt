@@ -1,0 +1,32 @@
+-- After a reply the session fits, and so does any other.
+use Rattle.std.proofs.Common.{◌≡◌, ◌≢◌, ℕ, ◌∙◌, sym, subst}
+use Rattle.mission_model.specs.declared.request.Client.TheVariants.{Link}
+use Rattle.request_board.specs.BoardState.{outstanding}
+use Rattle.upload_session.specs.Sessions.{SessionFits-own, SessionFits-other}
+use Rattle.upload_session.proofs.Fitting.{SessionFits-moved}
+use Rattle.upload_session.proofs.tests.hear.Goals as goal
+
+pub on_reply-requires-clause-client : goal.on_reply-requires-clause-client
+on_reply-requires-clause-client c = c.serve.ensures.clients (Link c.args.session.now.link) c.requires.fits.client
+
+pub returns-in-Some-clause-fits : goal.returns-in-Some-clause-fits
+returns-in-Some-clause-fits c =
+    SessionFits-own c.args.session.now c.on_reply.new.self c.args.transfer.now c.on_reply.new.transfer c.serve.new.board c.on_reply.new.board
+    (c.serve.ensures.clients (Link c.args.session.now.link) c.requires.fits.client)
+    c.on_reply.ensures.keeps
+
+pub returns-in-Some-clause-others : goal.returns-in-Some-clause-others
+returns-in-Some-clause-others c = λ other differs fits.
+    let from_session : other.link ≢ c.args.session.now.link = λ same. differs (same ∙ c.requires.link) in
+    SessionFits-other other c.args.session.now c.on_reply.new.self c.args.transfer.now c.on_reply.new.transfer c.serve.new.board c.on_reply.new.board from_session c.on_reply.ensures.keeps
+    (SessionFits-moved other c.args.transfer.now c.args.board.now c.serve.new.board c.serve.ensures.clients (c.serve.ensures.others other.link differs) fits)
+
+pub returns-in-None-clause-fits : goal.returns-in-None-clause-fits
+returns-in-None-clause-fits c =
+    SessionFits-moved c.args.session.now c.args.transfer.now c.args.board.now c.serve.new.board c.serve.ensures.clients
+    (subst (λ (link : ℕ). outstanding c.serve.new.board (Link link) ≡ outstanding c.args.board.now (Link link)) (sym c.requires.link) c.in-None.ensures.none)
+    c.requires.fits
+
+pub returns-in-None-clause-others : goal.returns-in-None-clause-others
+returns-in-None-clause-others c = λ other differs fits.
+    SessionFits-moved other c.args.transfer.now c.args.board.now c.serve.new.board c.serve.ensures.clients (c.serve.ensures.others other.link differs) fits
