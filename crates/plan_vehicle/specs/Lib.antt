@@ -1,0 +1,11 @@
+pub mod PlanState
+pub mod VehicleState
+pub mod VehicleStep
+pub mod VehicleRun
+pub mod OneVehicle
+pub mod Kept
+pub mod CheckState
+pub mod BootTold
+pub mod BootReady
+pub mod Order
+pub mod CoreRun
