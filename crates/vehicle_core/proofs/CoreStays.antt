@@ -1,27 +1,20 @@
 -- After a step of one actor the parts of the core fit one another still.
-use Rattle.std.proofs.Common.{◌≡◌, ◌≢◌, ℕ, ◌<◌, ◌≤◌, ◌⊎◌, inl, inr, Bool, true, false, List, [], ◌∷◌, length, Option, Some, None, refl, sym, ◌∙◌, ap, arith, subst, get_or, set, length-set, nat_eq}
+use Rattle.std.proofs.Common.{◌≡◌, ◌≢◌, ℕ, ◌<◌, Bool, true, false, length, refl, sym, ◌∙◌, ap, arith, subst, get_or, set, length-set, nat_eq}
 use Rattle.std.proofs.lemmas.List.{get_or-set_other}
-use Rattle.std.proofs.lemmas.Grind.{get_or-set_at, common_steps}
+use Rattle.std.proofs.lemmas.Grind.{get_or-set_at}
 use Rattle.std.proofs.lemmas.Bool.{true≢false}
 use Rattle.mission_model.specs.declared.request.Client.{Client}
 use Rattle.mission_model.specs.declared.request.Client.TheVariants.{Nav, Link, Watch}
 use Rattle.request_board.specs.BoardState.{outstanding, OthersStay, OutstandingStays}
 use Rattle.vehicle_core.specs.SharedState.{SharedState}
 use Rattle.vehicle_core.specs.LinkState.{LinkState, LinkFits}
-use Rattle.vehicle_core.specs.NavState.{NavState, NavFits}
-use Rattle.vehicle_core.specs.Keeps.{CommitsFit, BoardKeeps, LinkKeeps}
+use Rattle.vehicle_core.specs.NavState.{NavFits}
+use Rattle.vehicle_core.specs.Keeps.{BoardKeeps, LinkKeeps}
+use Rattle.vehicle_core.specs.PlansFit.{PlansFit}
 use Rattle.vehicle_core.specs.CoreState.{CoreState, CoreFits}
 
 pub LinkFits-counts : (s s' : SharedState) (l : LinkState) → LinkFits s l → outstanding s'.board (Link l.number) ≡ outstanding s.board (Link l.number) → LinkFits s' l
 LinkFits-counts s s' l fits e = record { outstanding = e ∙ fits.outstanding; session = fits.session; inputs = fits.inputs }
-
-pub CommitsFit-kept : (s s' : SharedState) → CommitsFit s → BoardKeeps s.board s'.board → CommitsFit s'
-CommitsFit-kept s s' fit keeps = record {
-  waiting = keeps.commits fit.waiting;
-  service = rw keeps.service fit.service;
-  heads = rw keeps.published fit.heads;
-  published = rw keeps.published fit.published;
-}
 
 number_of : Client → ℕ
 number_of (Link number) = number
@@ -46,23 +39,25 @@ pub link_at : (c : CoreState) (number : ℕ) (l : LinkState) → CoreFits c → 
 link_at c number l fits below is = subst (λ (x : LinkState). (x.number ≡ number) × LinkFits c.shared x) (sym is) (fits.each number l below)
 
 -- the worker moved
-pub worker_moved : (c c' : CoreState) → CoreFits c → c'.links ≡ c.links → c'.nav ≡ c.nav → c'.shared.board.service ≡ c'.taken → length c'.shared.board.link_posted ≡ length c.shared.board.link_posted → CommitsFit c'.shared → OutstandingStays c.shared.board c'.shared.board → CoreFits c'
-worker_moved c c' fits links nav service places commits counts = record {
+pub worker_moved : (c c' : CoreState) → CoreFits c → c'.links ≡ c.links → c'.nav ≡ c.nav → c'.shared.board.service ≡ c'.taken → length c'.shared.board.link_posted ≡ length c.shared.board.link_posted → OutstandingStays c.shared.board c'.shared.board → PlansFit c'.shared c.links c.nav → CoreFits c'
+worker_moved c c' fits links nav service places counts plans = record {
   service = service;
   links = rw links (places ∙ fits.links);
   each = rw links (λ k d below. ((fits.each k d below).0, LinkFits-counts c.shared c'.shared (get_or c.links k d) (fits.each k d below).1 (counts (Link (get_or c.links k d).number))));
   nav = rw nav fits.nav;
-  commits = commits;
+  one = rw links fits.one;
+  plans = rw (links, nav) plans;
 }
 
 -- the Navigator moved
-pub nav_moved : (c c' : CoreState) → CoreFits c → c'.links ≡ c.links → c'.taken ≡ c.taken → NavFits c'.nav → OthersStay Nav c.shared.board c'.shared.board → BoardKeeps c.shared.board c'.shared.board → CoreFits c'
-nav_moved c c' fits links taken nav others board = record {
+pub nav_moved : (c c' : CoreState) → CoreFits c → c'.links ≡ c.links → c'.taken ≡ c.taken → NavFits c'.nav → OthersStay Nav c.shared.board c'.shared.board → BoardKeeps c.shared.board c'.shared.board → PlansFit c'.shared c.links c'.nav → CoreFits c'
+nav_moved c c' fits links taken nav others board plans = record {
   service = board.service ∙ fits.service ∙ sym taken;
   links = rw links (board.links ∙ fits.links);
   each = rw links (λ k d below. ((fits.each k d below).0, LinkFits-counts c.shared c'.shared (get_or c.links k d) (fits.each k d below).1 (others (Link (get_or c.links k d).number) (Link-Nav _)).1));
   nav = nav;
-  commits = CommitsFit-kept c.shared c'.shared fits.commits board;
+  one = rw links fits.one;
+  plans = rw links plans;
 }
 
 -- the other links are as they were
@@ -79,11 +74,12 @@ link_other c number old new s' fits below is keeps k d within false e =
     rw there (was.0, LinkFits-counts c.shared s' (get_or c.links k d) was.1 (keeps.others (Link (get_or c.links k d).number) (Link-other _ _ differs)).1)
 
 -- a link moved
-pub link_moved : (c : CoreState) (number : ℕ) (old new : LinkState) (s' : SharedState) → CoreFits c → number < length c.links → old ≡ get_or c.links number old → LinkKeeps c.shared old s' new → CoreFits (record { shared = s'; taken = c.taken; links = set c.links number new; nav = c.nav })
-link_moved c number old new s' fits below is keeps = record {
+pub link_moved : (c : CoreState) (number : ℕ) (old new : LinkState) (s' : SharedState) → CoreFits c → number < length c.links → old ≡ get_or c.links number old → LinkKeeps c.shared old s' new → PlansFit s' (set c.links number new) c.nav → CoreFits (record { shared = s'; taken = c.taken; links = set c.links number new; nav = c.nav })
+link_moved c number old new s' fits below is keeps plans = record {
   service = keeps.board.service ∙ fits.service;
   links = keeps.board.links ∙ fits.links ∙ sym (length-set c.links number new);
   each = λ k d within. link_other c number old new s' fits below is keeps k d (rw (← length-set c.links number new) within) (nat_eq k number) refl;
   nav = fits.nav;
-  commits = CommitsFit-kept c.shared s' fits.commits keeps.board;
+  one = rw (length-set c.links number new) fits.one;
+  plans = plans;
 }

@@ -1,41 +1,35 @@
--- What the Navigator's parts keep: its cache stays the cache of a whole mission, and no read is a commit.
-use Rattle.std.proofs.Common.{◌≡◌, ℕ, zero, suc, ◌+◌, ◌<◌, ◌≤◌, Bool, true, false, List, [], ◌∷◌, ◌++◌, length, drop, refl, sym, ◌∙◌, arith, set, length-set, ◌==◌, ◌&&◌}
-use Rattle.std.specs.Prelude.{slice_set, if◌then◌else◌}
+-- What the Navigator's parts keep: its cache stays the cache of a whole mission.
+use Rattle.std.proofs.Common.{◌≡◌, ℕ, ◌<◌, Bool, true, false, List, length, refl, ◌∙◌, length-set, ◌==◌, ◌&&◌}
+use Rattle.std.specs.Prelude.{if◌then◌else◌}
 use Rattle.std.specs.List.{All}
-use Rattle.std.proofs.lemmas.List.Elements.{All-append, All-drop}
-use Rattle.std.proofs.lemmas.Grind.{common_steps}
+use Rattle.std.proofs.lemmas.List.Elements.{All-drop}
 use Rattle.mission_model.specs.declared.plan.Item.{Item}
-use Rattle.mission_model.specs.declared.plan.PlanType.{PlanType}
-use Rattle.mission_model.specs.declared.request.Client.{Client}
-use Rattle.mission_model.specs.declared.request.Request.{Request}
-use Rattle.mission_model.specs.declared.request.Request.TheVariants as request
 use Rattle.mission_model.specs.declared.request.Asked.{Asked}
 use Rattle.mission_model.specs.declared.request.Asked.TheVariants as about
 use Rattle.mission_model.specs.declared.request.Reply.{Reply}
 use Rattle.mission_model.specs.declared.request.Reply.TheVariants as reply
-use Rattle.mission_model.specs.declared.schedule.InputLine.{InputLine}
 use Rattle.client_cache.specs.CacheState.{CacheState, got, kept, answered_at, known_with, in_window, same_kind}
-use Rattle.client_cache.specs.Wants.{reads, asking, flying}
-use Rattle.vehicle_core.specs.ScheduleState.{ScheduleState, advanced, begun_on}
-use Rattle.vehicle_core.specs.NavState.{NavState, NavFits, IsNavInput}
-use Rattle.vehicle_core.specs.Keeps.{CommitFits}
+use Rattle.client_cache.specs.Wants.{flying}
+use Rattle.vehicle_core.specs.ScheduleState.{ScheduleState, advanced}
+use Rattle.vehicle_core.specs.NavState.{NavState, NavFits, IsForNav}
 
 -- the two caches are of one client and kind, of one plan and one window
 pub record SameShape (c : CacheState) (c' : CacheState) : Type 0 where
   pub client : c'.client ≡ c.client
   pub kind : c'.kind ≡ c.kind
+  pub id : c'.id ≡ c.id
   pub count : c'.count ≡ c.count
   pub from : c'.from ≡ c.from
   pub known : length c'.known ≡ length c.known
 
-same : (c : CacheState) → SameShape c c
-same c = record { client = refl; kind = refl; count = refl; from = refl; known = refl }
+pub same : (c : CacheState) → SameShape c c
+same c = record { client = refl; kind = refl; id = refl; count = refl; from = refl; known = refl }
 
 answered-shape : (c : CacheState) (seq : ℕ) → SameShape c (answered_at c seq)
-answered-shape c seq = record { client = refl; kind = refl; count = refl; from = refl; known = refl }
+answered-shape c seq = record { client = refl; kind = refl; id = refl; count = refl; from = refl; known = refl }
 
 kept_if-shape : (c : CacheState) (seq : ℕ) (item : Item) (b : Bool) → SameShape c (if b then known_with (answered_at c seq) seq item else answered_at c seq)
-kept_if-shape c seq item true = record { client = refl; kind = refl; count = refl; from = refl; known = length-set _ _ _ }
+kept_if-shape c seq item true = record { client = refl; kind = refl; id = refl; count = refl; from = refl; known = length-set _ _ _ }
 kept_if-shape c seq item false = answered-shape c seq
 
 kept-shape : (c : CacheState) (seq : ℕ) (given : Reply) → SameShape c (kept c seq given)
@@ -57,16 +51,12 @@ got-shape c (about.Commit kind id count) given = same c
 got-shape c (about.SetMark mark) given = same c
 
 pub flying-shape : (c : CacheState) (seqs : List ℕ) → SameShape c (flying c seqs)
-flying-shape c seqs = record { client = refl; kind = refl; count = refl; from = refl; known = refl }
-
-pub reads-fit : (client : Client) (kind : PlanType) (id : ℕ) (seqs : List ℕ) → All CommitFits (reads client kind id seqs)
-reads-fit client kind id [] k d below = absurd (omega (arith, below))
-reads-fit client kind id (seq ∷ seqs) zero d below = tt
-reads-fit client kind id (seq ∷ seqs) (suc k) d below = reads-fit client kind id seqs k d (omega (arith, below))
+flying-shape c seqs = record { client = refl; kind = refl; id = refl; count = refl; from = refl; known = refl }
 
 -- another cache of the same shape, and other inputs of the Navigator
-pub NavFits-with : (n : NavState) (schedule : ScheduleState) (cache : CacheState) (at_leg : Bool) → NavFits n → SameShape n.cache cache → All IsNavInput schedule.inputs → (at_leg ≡ true → n.index < n.cache.count) → NavFits (record n { schedule = schedule; cache = cache; at_leg = at_leg })
+pub NavFits-with : (n : NavState) (schedule : ScheduleState) (cache : CacheState) (at_leg : Bool) → NavFits n → SameShape n.cache cache → All IsForNav schedule.inputs → (at_leg ≡ true → n.index < n.cache.count) → NavFits (record n { schedule = schedule; cache = cache; at_leg = at_leg })
 NavFits-with n schedule cache at_leg fits shape inputs leg = record {
+  mode = fits.mode;
   client = shape.client ∙ fits.client;
   kind = shape.kind ∙ fits.kind;
   window = shape.from ∙ fits.window;
@@ -78,9 +68,6 @@ NavFits-with n schedule cache at_leg fits shape inputs leg = record {
 }
 
 pub NavFits-advanced : (n : NavState) → NavFits n → NavFits (record n { schedule = advanced n.schedule })
-NavFits-advanced n fits = NavFits-with n (advanced n.schedule) n.cache n.at_leg fits (same n.cache) (All-drop IsNavInput 1 n.schedule.inputs fits.inputs) fits.leg
+NavFits-advanced n fits = NavFits-with n (advanced n.schedule) n.cache n.at_leg fits (same n.cache) (All-drop IsForNav 1 n.schedule.inputs fits.inputs) fits.leg
 
-pub reads-added : (waiting : List (Client × Request)) (client : Client) (kind : PlanType) (id : ℕ) (seqs : List ℕ) → All CommitFits waiting → All CommitFits (waiting ++ reads client kind id seqs)
-reads-added waiting client kind id seqs fit = All-append CommitFits waiting (reads client kind id seqs) fit (reads-fit client kind id seqs)
-
-pub ruleset nav_stays = (reads-added, NavFits-advanced)
+pub ruleset nav_stays = (NavFits-advanced)

@@ -1,16 +1,12 @@
 -- All actors of a boot: the shared part, the request that the worker has taken, the links and the Navigator.
-use Rattle.std.specs.Prelude.{◌≡◌, ℕ, List, [], ◌∷◌, length, Option, Some, None, slice_index_or, ◌<◌}
+use Rattle.std.specs.Prelude.{◌≡◌, ℕ, ◌<◌, ◌≤◌, List, [], length, Option, slice_index_or}
 use Rattle.std.specs.List.{All}
-use Rattle.mission_model.specs.declared.limits.TheConstants.{MAX_MISSION_ITEMS}
-use Rattle.mission_model.specs.declared.plan.PlanType.TheVariants.{Mission}
 use Rattle.mission_model.specs.declared.request.Client.{Client}
 use Rattle.mission_model.specs.declared.request.Request.{Request}
-use Rattle.mission_model.specs.declared.request.Request.TheVariants as request
-use Rattle.request_board.specs.BoardState.{BoardState}
 use Rattle.vehicle_core.specs.SharedState.{SharedState}
 use Rattle.vehicle_core.specs.LinkState.{LinkState, LinkFits}
 use Rattle.vehicle_core.specs.NavState.{NavState, NavFits}
-use Rattle.vehicle_core.specs.Keeps.{CommitsFit}
+use Rattle.vehicle_core.specs.PlansFit.{PlansFit}
 
 pub record CoreState : Type 0 where
   pub shared : SharedState
@@ -18,18 +14,14 @@ pub record CoreState : Type 0 where
   pub links : List LinkState
   pub nav : NavState
 
--- the parts fit one another
+-- the parts fit one another; no more than one link, since sessions do not yet share a transfer
 pub record CoreFits (c : CoreState) : Type 0 where
   pub service : c.shared.board.service ≡ c.taken
   pub links : length c.shared.board.link_posted ≡ length c.links
+  pub one : length c.links ≤ 1
   pub each : (k : ℕ) (d : LinkState) → k < length c.links → ((slice_index_or c.links k d).number ≡ k) × LinkFits c.shared (slice_index_or c.links k d)
   pub nav : NavFits c.nav
-  pub commits : CommitsFit c.shared
-
--- the request without its client
-abbrev pub request_of : Option (Client × Request) → Option Request
-request_of None = None
-request_of (Some (client, request)) = Some request
+  pub plans : PlansFit c.shared c.links c.nav
 
 -- the link's schedule is finished
 abbrev pub LinkFinished : LinkState → Type 0

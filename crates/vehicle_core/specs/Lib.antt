@@ -7,5 +7,9 @@ pub mod WorkerLaw
 pub mod NavState
 pub mod NavLaw
 pub mod Keeps
+pub mod PlansFit
 pub mod CoreState
+pub mod NewCore
 pub mod CoreLaw
+pub mod Drafts
+pub mod PartsLaw

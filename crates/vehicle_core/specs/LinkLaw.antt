@@ -1,16 +1,14 @@
 -- What an uploading link does, from the shared part and its own state alone.
-use Rattle.std.specs.Prelude.{◌≡◌, ℕ, ◌+◌, ◌<◌, ◌≤◌, ◌⊎◌, true, false, List, [], ◌∷◌, length, Some, None, slice_get, slice_set, slice_index_or}
+use Rattle.std.specs.Prelude.{◌≡◌, ℕ, ◌+◌, ◌<◌, ◌≤◌, ◌⊎◌, true, false, List, [], ◌∷◌, length, Some, slice_get, slice_set}
 use Rattle.mission_model.specs.declared.plan.Item.{Item}
 use Rattle.mission_model.specs.declared.plan.PlanType.TheVariants.{Mission}
 use Rattle.mission_model.specs.declared.request.Client.{Client}
 use Rattle.mission_model.specs.declared.request.Client.TheVariants.{Link}
-use Rattle.mission_model.specs.declared.request.Request.{Request}
 use Rattle.mission_model.specs.declared.request.Request.TheVariants as request
 use Rattle.mission_model.specs.declared.request.Asked.{Asked}
 use Rattle.mission_model.specs.declared.request.Reply.{Reply}
 use Rattle.mission_model.specs.declared.request.Reply.TheVariants as reply
 use Rattle.mission_model.specs.declared.message.AckCode.TheVariants.{Accepted, Error, NoSpace}
-use Rattle.mission_model.specs.declared.message.Said.{Said}
 use Rattle.mission_model.specs.declared.message.Said.TheVariants as said
 use Rattle.mission_model.specs.declared.message.Answer.{Answer}
 use Rattle.mission_model.specs.declared.message.Answer.TheVariants as answer
@@ -24,19 +22,15 @@ use Rattle.vehicle_core.specs.declared.StepOut.{StepOut}
 use Rattle.vehicle_core.specs.declared.StepOut.TheVariants.{Made, Idle}
 use Rattle.vehicle_core.specs.declared.link.Session.{Session}
 use Rattle.vehicle_core.specs.declared.link.Session.TheVariants as session
-use Rattle.vehicle_core.specs.ScheduleState.{ScheduleState, begun_on, advanced}
-use Rattle.vehicle_core.specs.SharedState.{SharedState, with_board, arrived_at, arrivals_at}
-use Rattle.vehicle_core.specs.Ready.{InputReady, InputWaits}
+use Rattle.vehicle_core.specs.ScheduleState.{begun_on, advanced}
+use Rattle.vehicle_core.specs.SharedState.{SharedState, with_board, arrived_at, arrivals_at, last_id}
+use Rattle.vehicle_core.specs.Ready.{InputWaits}
 use Rattle.vehicle_core.specs.LinkState.{LinkState, link_done}
 
 -- nothing is posted to the link, and nothing of its own is outstanding
 pub record IsFree (s : SharedState) (l : LinkState) : Type 0 where
   pub posted : posted s.board (Link l.number) ≡ []
   pub outstanding : outstanding s.board (Link l.number) ≡ 0
-
--- the greatest id of a mission that was committed or used in this boot
-abbrev pub last_id : SharedState → ℕ
-last_id s = slice_index_or s.ids 0 0
 
 -- an upload begins: its Count has an id that is one above all used ones, and its first item is requested
 pub record Begins (s : SharedState) (l : LinkState) (kind count : ℕ) (given : Answer) (s' : SharedState) (l' : LinkState) : Type 0 where

@@ -1,11 +1,12 @@
 -- A link: its number, the rest of its schedule and its session.
-use Rattle.std.specs.Prelude.{◌≡◌, ℕ, ◌<◌, ◌≤◌, Bool, true, false, List, [], ◌∷◌, length, Option, Some, None, slice_get}
+use Rattle.std.specs.Prelude.{◌≡◌, ℕ, ◌<◌, Bool, true, List, ◌∷◌, length, Option, None, slice_get}
 use Rattle.std.specs.List.{All}
-use Rattle.mission_model.specs.declared.limits.TheConstants.{MAX_MISSION_ITEMS, MAX_PLACES}
+use Rattle.mission_model.specs.declared.limits.TheConstants.{MAX_PLACES}
 use Rattle.mission_model.specs.declared.plan.Item.{Item}
 use Rattle.mission_model.specs.declared.plan.PlanType.TheVariants.{Mission}
 use Rattle.mission_model.specs.declared.request.Client.TheVariants.{Link}
 use Rattle.mission_model.specs.declared.schedule.InputLine.TheVariants as input
+use Rattle.mission_model.specs.PlainMission.{IsPlainMission}
 use Rattle.request_board.specs.BoardState.{outstanding}
 use Rattle.vehicle_core.specs.SharedState.{SharedState}
 use Rattle.mission_model.specs.declared.schedule.InputLine.{InputLine}
@@ -41,19 +42,20 @@ abbrev pub NoUpload : List InputLine → Bool → Type 0
 NoUpload (input.Upload kind items ∷ rest) true = ⊥
 NoUpload inputs begun = Unit {0}
 
--- the schedule fits the session: while an upload goes on, it is the current input, and the seq is below its count
+-- the schedule fits the session: while an upload goes on, it is the current input and has begun, and the seq is below
+-- its count
 abbrev pub SessionFits : ScheduleState → Session → Type 0
 SessionFits schedule Free = NoUpload schedule.inputs schedule.begun
-SessionFits schedule (Receiving id count seq) = Uploading schedule.inputs count × (seq < count)
-SessionFits schedule (Writing id count seq) = Uploading schedule.inputs count × (seq < count)
-SessionFits schedule (Committing id count) = Uploading schedule.inputs count
+SessionFits schedule (Receiving id count seq) = Uploading schedule.inputs count × (schedule.begun ≡ true) × (seq < count)
+SessionFits schedule (Writing id count seq) = Uploading schedule.inputs count × (schedule.begun ≡ true) × (seq < count)
+SessionFits schedule (Committing id count) = Uploading schedule.inputs count × (schedule.begun ≡ true)
 
--- an input of a link: the upload of a mission of 1 item up to the limit, a wait, or a meeting at one of the places
-abbrev pub IsLinkInput : InputLine → Type 0
-IsLinkInput (input.Upload Mission items) = (0 < length items) × (length items ≤ MAX_MISSION_ITEMS)
-IsLinkInput input.Wait = Unit {0}
-IsLinkInput (input.Meet place count) = place < MAX_PLACES
-IsLinkInput other = ⊥
+-- an input that a link may have: the upload of a plain mission, a wait, or a meeting at one of the places
+abbrev pub IsForLink : InputLine → Type 0
+IsForLink (input.Upload Mission items) = IsPlainMission items
+IsForLink input.Wait = Unit {0}
+IsForLink (input.Meet place count) = place < MAX_PLACES
+IsForLink other = ⊥
 
 -- the requests of the link that are outstanding, by its session
 abbrev pub session_out : Session → ℕ
@@ -72,4 +74,4 @@ HearsFits other = ⊥
 pub record LinkFits (s : SharedState) (l : LinkState) : Type 0 where
   pub outstanding : outstanding s.board (Link l.number) ≡ session_out l.session
   pub session : SessionFits l.schedule l.session
-  pub inputs : All IsLinkInput l.schedule.inputs
+  pub inputs : All IsForLink l.schedule.inputs

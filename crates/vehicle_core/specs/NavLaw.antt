@@ -1,12 +1,10 @@
 -- What the Navigator does, from the shared part and its own state alone.
-use Rattle.std.specs.Prelude.{◌≡◌, ◌≢◌, ℕ, ◌+◌, ◌<◌, ◌≤◌, ◌⊎◌, Bool, true, false, List, [], ◌∷◌, length, Some, None, slice_index_or}
-use Rattle.mission_model.specs.declared.plan.PlanHead.{PlanHead}
+use Rattle.std.specs.Prelude.{◌≡◌, ◌≢◌, ℕ, ◌+◌, ◌<◌, ◌≤◌, ◌⊎◌, Bool, true, false, List, [], ◌∷◌, length, Some, None}
 use Rattle.mission_model.specs.declared.plan.PlanType.TheVariants.{Mission}
 use Rattle.mission_model.specs.declared.request.Client.{Client}
 use Rattle.mission_model.specs.declared.request.Client.TheVariants.{Nav}
 use Rattle.mission_model.specs.declared.request.Asked.{Asked}
 use Rattle.mission_model.specs.declared.request.Reply.{Reply}
-use Rattle.mission_model.specs.declared.vehicle.Mode.{Mode}
 use Rattle.mission_model.specs.declared.vehicle.Mode.TheVariants as mode
 use Rattle.mission_model.specs.declared.vehicle.VehicleLine.{VehicleLine}
 use Rattle.mission_model.specs.declared.vehicle.VehicleLine.TheVariants as event
@@ -17,26 +15,16 @@ use Rattle.mission_model.specs.declared.schedule.InputLine.{InputLine}
 use Rattle.mission_model.specs.declared.schedule.InputLine.TheVariants as input
 use Rattle.mission_model.specs.declared.flight_line.Line.{Line}
 use Rattle.mission_model.specs.declared.flight_line.Line.TheVariants as line
-use Rattle.request_board.specs.BoardState.{BoardState, posted, outstanding}
+use Rattle.request_board.specs.BoardState.{posted, outstanding}
 use Rattle.request_board.specs.BoardCalls.{heard}
-use Rattle.client_cache.specs.CacheState.{CacheState, known_at, got}
+use Rattle.client_cache.specs.CacheState.{known_at, got}
 use Rattle.client_cache.specs.Wants.{wanted, asking, flying}
 use Rattle.vehicle_core.specs.declared.StepOut.{StepOut}
 use Rattle.vehicle_core.specs.declared.StepOut.TheVariants.{Made, Idle}
 use Rattle.vehicle_core.specs.ScheduleState.{ScheduleState, begun_on, advanced}
-use Rattle.vehicle_core.specs.SharedState.{SharedState, with_board, arrived_at, arrivals_at}
+use Rattle.vehicle_core.specs.SharedState.{SharedState, with_board, arrived_at, arrivals_at, mission_head, fence_id}
 use Rattle.vehicle_core.specs.Ready.{InputReady, InputWaits}
 use Rattle.vehicle_core.specs.NavState.{NavState, met, in_mode}
-
--- the published heads, mission and fence
-abbrev pub no_head : PlanHead
-no_head = record { id = 0; count = 0 }
-
-abbrev pub mission_head : SharedState → PlanHead
-mission_head s = slice_index_or s.board.published 0 no_head
-
-abbrev pub fence_id : SharedState → ℕ
-fence_id s = (slice_index_or s.board.published 1 no_head).id
 
 -- an event that looks at no item: what it shows, and the Navigator after it
 abbrev pub Shows : NavState → VehicleLine → NavWhat → NavState → Type 0

@@ -1,12 +1,11 @@
 -- When an actor with a schedule is ready.
-use Rattle.std.specs.Prelude.{◌≡◌, ℕ, ◌<◌, ◌≤◌, Bool, true, false, List, [], ◌∷◌}
+use Rattle.std.specs.Prelude.{◌≡◌, ◌<◌, ◌≤◌, Bool, true, false, List, [], ◌∷◌}
 use Rattle.mission_model.specs.declared.request.Client.{Client}
 use Rattle.mission_model.specs.declared.schedule.InputLine.{InputLine}
 use Rattle.mission_model.specs.declared.schedule.InputLine.TheVariants as input
 use Rattle.mission_model.specs.declared.vehicle.VehicleLine.TheVariants as event
 use Rattle.request_board.specs.BoardState.{outstanding}
 use Rattle.vehicle_core.specs.SharedState.{SharedState, arrivals_at}
-use Rattle.vehicle_core.specs.ScheduleState.{ScheduleState}
 
 -- the client may take a step on its current input: a wait, and a look of a go after a pending one, need that nothing
 -- of its own is outstanding; a meeting that it came to needs enough arrivals; every other step is ready

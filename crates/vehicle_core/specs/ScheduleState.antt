@@ -1,5 +1,5 @@
 -- The rest of an actor's schedule.
-use Rattle.std.specs.Prelude.{ℕ, ◌==◌, Bool, true, false, List, [], ◌∷◌, drop, if◌then◌else◌}
+use Rattle.std.specs.Prelude.{◌==◌, Bool, true, false, List, [], ◌∷◌, drop, if◌then◌else◌}
 use Rattle.mission_model.specs.declared.flight_line.Actor.{Actor}
 use Rattle.mission_model.specs.declared.flight_line.Actor.TheVariants.{Worker, Link, Nav, Watch}
 use Rattle.mission_model.specs.declared.schedule.InputLine.{InputLine}
@@ -21,6 +21,11 @@ same_actor actor other = false
 abbrev pub inputs_of : Actor → List (Actor × InputLine) → List InputLine
 inputs_of actor [] = []
 inputs_of actor ((other, input) ∷ inputs) = if same_actor actor other then input ∷ inputs_of actor inputs else inputs_of actor inputs
+
+-- the inputs of all other actors, in their order
+abbrev pub others_of : Actor → List (Actor × InputLine) → List (Actor × InputLine)
+others_of actor [] = []
+others_of actor ((other, input) ∷ inputs) = if same_actor actor other then others_of actor inputs else (other, input) ∷ others_of actor inputs
 
 -- nothing of the schedule was done
 abbrev pub fresh : List InputLine → ScheduleState

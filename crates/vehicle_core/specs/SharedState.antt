@@ -1,5 +1,5 @@
 -- What all actors share: the board, the arrivals at the meeting places, and the plan ids that are used.
-use Rattle.std.specs.Prelude.{ℕ, ◌+◌, min, List, slice_index_or, slice_set, map, replicate}
+use Rattle.std.specs.Prelude.{ℕ, ◌+◌, min, List, [], ◌∷◌, slice_index_or, slice_set, replicate}
 use Rattle.mission_model.specs.declared.limits.TheConstants.{MAX_PLACES}
 use Rattle.mission_model.specs.declared.plan.PlanHead.{PlanHead}
 use Rattle.request_board.specs.BoardCalls.{opened}
@@ -24,7 +24,26 @@ arrived_at shared place = record shared { arrivals = slice_set shared.arrivals p
 abbrev pub with_board : SharedState → BoardState → SharedState
 with_board shared board = record shared { board = board }
 
+-- no plan at all
+abbrev pub no_head : PlanHead
+no_head = record { id = 0; count = 0 }
+
+-- the head of a kind, by its place
+abbrev pub head_at : List PlanHead → ℕ → PlanHead
+head_at heads place = slice_index_or heads place no_head
+
+-- the mission that is published, and the published fence's id
+abbrev pub mission_head : SharedState → PlanHead
+mission_head shared = head_at shared.board.published 0
+
+abbrev pub fence_id : SharedState → ℕ
+fence_id shared = (head_at shared.board.published 1).id
+
+-- the greatest id of a mission that was committed or used in this boot
+abbrev pub last_id : SharedState → ℕ
+last_id shared = slice_index_or shared.ids 0 0
+
 -- the shared part at the beginning of a boot: nothing is asked, nobody has come to a meeting, and no id is used beyond
 -- those in force
 abbrev pub new_shared : List PlanHead → ℕ → SharedState
-new_shared heads links = record { board = opened links 0 heads; arrivals = replicate MAX_PLACES 0; ids = map (λ (head : PlanHead). head.id) heads }
+new_shared heads links = record { board = opened links 0 heads; arrivals = replicate MAX_PLACES 0; ids = (head_at heads 0).id ∷ (head_at heads 1).id ∷ (head_at heads 2).id ∷ [] }

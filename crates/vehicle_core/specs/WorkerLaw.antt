@@ -1,5 +1,5 @@
 -- What the worker does, from the board and the request that it has taken alone.
-use Rattle.std.specs.Prelude.{◌≡◌, List, [], ◌∷◌, Option, Some, None}
+use Rattle.std.specs.Prelude.{◌≡◌, [], ◌∷◌, Option, Some, None}
 use Rattle.mission_model.specs.declared.request.Client.{Client}
 use Rattle.mission_model.specs.declared.request.Request.{Request}
 use Rattle.mission_model.specs.declared.request.Request.TheVariants as request
@@ -19,12 +19,18 @@ ReplySuits (request.Read kind id seq) (reply.Item item) = Unit {0}
 ReplySuits (request.Read kind id seq) (reply.Stale now) = Unit {0}
 ReplySuits (request.Write kind id seq item) reply.Done = Unit {0}
 ReplySuits (request.Commit kind id count) reply.Done = Unit {0}
+ReplySuits (request.SetMark mark) reply.Done = Unit {0}
 ReplySuits asked given = ⊥
 
+-- the request that is taken, without its client
+abbrev pub request_of : Option (Client × Request) → Option Request
+request_of None = None
+request_of (Some (client, request)) = Some request
+
 -- a reply is given exactly where a request is taken, and it suits
-abbrev pub InputSuits : Option (Client × Request) → Option Reply → Type 0
+abbrev pub InputSuits : Option Request → Option Reply → Type 0
 InputSuits None None = Unit {0}
-InputSuits (Some (client, request)) (Some reply) = ReplySuits request reply
+InputSuits (Some request) (Some reply) = ReplySuits request reply
 InputSuits taken reply = ⊥
 
 -- the first request that waits is taken

@@ -1,14 +1,21 @@
 //! The core: the shared part and each actor's local for one boot. A step is a step of one actor.
 
-ghost use Rattle.std.specs.Prelude.{◌≡◌, ◌≤◌, ◌<◌, ℕ, length, IsTrue, ◌↔◌};
-ghost use Rattle.vehicle_core.specs.CoreLaw.{HasActor, CoreSuits, CoreStep};
-ghost use Rattle.vehicle_core.specs.CoreState.{request_of, IsFinished};
+ghost use Rattle.std.specs.Prelude.{◌≡◌, IsTrue, IfOk, IfSome, ◌↔◌};
+ghost use Rattle.vehicle_core.specs.SharedState.{mission_head};
+ghost use Rattle.vehicle_core.specs.PlansFit.{IsServable};
+ghost use Rattle.vehicle_core.specs.CoreLaw.{CoreSuits, CoreStep, IsReady};
+ghost use Rattle.vehicle_core.specs.WorkerLaw.{request_of};
+ghost use Rattle.vehicle_core.specs.Drafts.{DraftsBegin, DraftsStay, DraftsWhole};
+ghost use Rattle.vehicle_core.specs.NewCore.{InLimits, StateFits, new_core};
+ghost use Rattle.vehicle_core.specs.CoreState.{CoreFits, IsFinished};
 
+use crate::boot_inputs::{seat_links, split};
 use crate::link::Link;
 use crate::nav::Nav;
 use crate::shared::Shared;
 use crate::{StepOut, link, nav, worker};
-use mission_model::{Actor, Client, Line, Reply, Request};
+use mission_model::{Actor, BootScript, BootState, Client, Line, Reply, Request};
+use std::alloc::{AllocError, Global};
 use std::marker::Model;
 
 /// The actors of one boot over the part that they share.
@@ -31,16 +38,50 @@ impl Model for Core {
 }
 
 impl Core {
-    /// One step of one actor; `Idle` exactly where it is not ready. A reply is given exactly to a worker that has
-    /// taken a request.
+    /// The core at the beginning of a boot that found these plans in force and this mark. There are no watchers yet.
+    /// It fails only for want of memory.
+    pub fn new(alloc: Global, boot: BootScript, state: &BootState) -> Result<Core, AllocError>
+        requires limits { InLimits boot }
+        requires state { StateFits state.now }
+        ensures core { IfOk result (λ core. core ≡ new_core boot state.now) }
+        ensures fits { IfOk result (λ core. CoreFits core) }
+    {
+        let shared = Shared::new(alloc, boot.links, state.heads)?;
+        let (links, rest) = seat_links(alloc, boot.links, boot.inputs.into_vec())?;
+        let (inputs, _) = split(alloc, Actor::Nav, rest)?;
+        let nav = Nav::new(alloc, state.heads[0], state.mark.index, inputs)?;
+        Ok(Core {
+            shared,
+            taken: None,
+            links,
+            nav,
+        })
+    }
+
+    /// One step of one actor, with the reply that `serve` gave where the worker has taken a request. An actor that the
+    /// core does not have is never ready.
     pub fn step(&mut self, actor: Actor, input: Option<Reply>) -> StepOut<Line>
-        requires actor { HasActor self.old actor }
         requires suits { CoreSuits self.old actor input }
-        ensures { CoreStep self.old actor input result self.new }
+        ensures step { CoreStep self.old actor input result self.new }
+        ensures idle { (result ≡ StepOut.Idle) ↔ (IsReady self.old actor input → ⊥) }
+        ensures fits { CoreFits self.new }
+    {
+        let out = self.act(actor, input);
+        let _ = &self.taken;
+        out
+    }
+
+    /// The step of the actor.
+    fn act(&mut self, actor: Actor, input: Option<Reply>) -> StepOut<Line>
+        requires suits { CoreSuits self.old actor input }
+        ensures step { CoreStep self.old actor input result self.new }
     {
         match actor {
             Actor::Worker => worker::step(&mut self.shared, &mut self.taken, input),
-            Actor::Link(number) => link::step(&mut self.shared, &mut self.links[number as usize]),
+            Actor::Link(number) => match self.links.get_mut(number as usize) {
+                Some(link) => link::step(&mut self.shared, link),
+                None => StepOut::Idle,
+            },
             Actor::Nav => nav::step(&mut self.shared, &mut self.nav),
             Actor::Watch(_) => StepOut::Idle,
         }
@@ -48,7 +89,9 @@ impl Core {
 
     /// The request that the worker has taken and not answered.
     pub fn taken(&self) -> Option<Request>
-        ensures { result ≡ request_of self.now.taken }
+        ensures taken { result ≡ request_of self.now.taken }
+        ensures served { IfSome result (IsServable (mission_head self.now.shared)) }
+        ensures fits { CoreFits self.now }
     {
         let (_, request) = self.taken?;
         Some(request)
@@ -69,3 +112,11 @@ impl Core {
         true
     }
 }
+
+/// Laws on a store that keeps the drafts of uploads: a new core relies on none, a step keeps what the core relies on
+/// where the store follows the worker's services, and a commit that is taken has each of its items written.
+pub fn drafts_are_whole()
+    ensures begin { DraftsBegin }
+    ensures stay { DraftsStay }
+    ensures whole { DraftsWhole }
+{}

@@ -3,10 +3,14 @@
 #![tactic(auto)]
 
 mod boot_core;
+mod boot_inputs;
 mod link;
 mod nav;
+mod parts;
 mod schedule;
 mod shared;
+#[cfg(test)]
+mod tests;
 mod worker;
 
 /// What a step gives: a line of the record, or nothing where the actor was not ready.
@@ -16,8 +20,6 @@ pub enum StepOut<L> {
     Idle,
 }
 
-pub use boot_core::Core;
-pub use link::{Link, Session};
-pub use nav::Nav;
-pub use schedule::Schedule;
-pub use shared::Shared;
+pub use boot_core::{Core, drafts_are_whole};
+pub use mission_model::Actor;
+pub use parts::parts_fit;

@@ -2,7 +2,7 @@
 
 ghost use Rattle.std.specs.Prelude.{◌≡◌, ◌<◌, ◌∷◌, drop};
 ghost use Rattle.mission_model.specs.declared.limits.TheConstants.{MAX_PLACES};
-ghost use Rattle.vehicle_core.specs.LinkState.{new_link, link_done, Uploading, LinkFits, HearsFits, SessionFits, IsLinkInput, item_at};
+ghost use Rattle.vehicle_core.specs.LinkState.{new_link, link_done, Uploading, LinkFits, HearsFits, SessionFits, IsForLink, item_at};
 ghost use Rattle.std.specs.List.{All};
 ghost use Rattle.vehicle_core.specs.Keeps.{LinkKeeps};
 ghost use Rattle.vehicle_core.specs.LinkLaw.{LinkStep, Answers, AnswersDone, IsFree};
@@ -100,7 +100,7 @@ fn answer_to(shared: &mut Shared, link: &mut Link, reply: Reply) -> Answer
     requires free { outstanding shared.old.board (Client.Link link.old.number) ≡ 0 }
     requires session { HearsFits link.old.session }
     requires schedule { SessionFits link.old.schedule link.old.session }
-    requires inputs { All IsLinkInput link.old.schedule.inputs }
+    requires inputs { All IsForLink link.old.schedule.inputs }
     ensures answers { Answers shared.old link.old reply result shared.new link.new }
     ensures keeps { LinkKeeps shared.old link.old shared.new link.new }
 {
@@ -126,7 +126,7 @@ fn written(shared: &mut Shared, link: &mut Link, id: u32, count: u16, seq: u16) 
     requires free { outstanding shared.old.board (Client.Link link.old.number) ≡ 0 }
     requires session { link.old.session ≡ Session.Writing id count seq }
     requires schedule { SessionFits link.old.schedule link.old.session }
-    requires inputs { All IsLinkInput link.old.schedule.inputs }
+    requires inputs { All IsForLink link.old.schedule.inputs }
     ensures answers { AnswersDone shared.old link.old (Session.Writing id count seq) result shared.new link.new }
     ensures keeps { LinkKeeps shared.old link.old shared.new link.new }
 {

@@ -4,9 +4,10 @@ ghost use Rattle.std.specs.Prelude.{◌≡◌, ◌<◌, ◌≤◌, ◌∷◌, []
 ghost use Rattle.mission_model.specs.declared.limits.TheConstants.{MAX_PLACES};
 ghost use Rattle.request_board.specs.BoardState.{HasClient, OthersStay, posted};
 ghost use Rattle.vehicle_core.specs.Ready.{InputReady};
-ghost use Rattle.vehicle_core.specs.NavState.{new_nav, met, in_mode, NavFits, HeadFits};
+ghost use Rattle.vehicle_core.specs.NavState.{new_nav, unknown, met, in_mode, IsForMission, NavFits, HeadFits};
 ghost use Rattle.vehicle_core.specs.Keeps.{BoardKeeps};
-ghost use Rattle.vehicle_core.specs.NavLaw.{NavStep, Acts, Shows, Ticks, Looks, mission_head, fence_id};
+ghost use Rattle.vehicle_core.specs.NavLaw.{NavStep, Acts, Shows, Ticks, Looks};
+ghost use Rattle.vehicle_core.specs.SharedState.{mission_head, fence_id};
 
 use crate::StepOut;
 use crate::schedule::Schedule;
@@ -48,12 +49,10 @@ impl Nav {
     ) -> Result<Nav, AllocError>
         ensures { IfOk result (λ nav. nav ≡ new_nav head index inputs.items) }
     {
-        let mut cache = Cache::new(alloc, Client::Nav, PlanType::Mission, MAX_MISSION_ITEMS)?;
-        cache.adopt(head);
         Ok(Nav {
             schedule: Schedule::new(inputs),
             mode: Mode::Hold,
-            cache,
+            cache: unknown_mission(alloc, head)?,
             index,
             at_leg: false,
         })
@@ -89,7 +88,8 @@ impl Nav {
 
     /// Takes a mode: mission mode at the mission's end begins it again.
     fn take_mode(&mut self, mode: Mode)
-        requires { NavFits self.old }
+        requires fits { NavFits self.old }
+        requires event { IsForMission (VehicleLine.Mode mode) }
         ensures mode { self.new ≡ in_mode self.old mode }
         ensures fits { NavFits self.new }
     {
@@ -99,6 +99,19 @@ impl Nav {
             self.at_leg = false;
         }
     }
+}
+
+/// The Navigator's cache of a mission of which nothing is known.
+fn unknown_mission(alloc: Global, head: PlanHead) -> Result<Cache, AllocError>
+    ensures { IfOk result (λ cache. cache ≡ unknown head) }
+{
+    let mut cache = Cache::new(alloc, Client::Nav, PlanType::Mission, MAX_MISSION_ITEMS)?;
+    if head.id == 0 {
+        // a cache begins with id 0 and no items, and adopts only another id
+        cache.adopt(PlanHead { id: 1, count: 0 });
+    }
+    cache.adopt(head);
+    Ok(cache)
 }
 
 /// One step of the Navigator: it takes the reply that is posted to it, or else goes on with its schedule.
@@ -219,6 +232,7 @@ fn happen(shared: &mut Shared, nav: &mut Nav, event: VehicleLine) -> StepOut<Lin
 fn act(shared: &mut Shared, nav: &mut Nav, event: VehicleLine) -> NavEntry
     requires client { HasClient shared.old.board Client.Nav }
     requires fits { NavFits nav.old }
+    requires event { IsForMission event }
     ensures acts { Acts shared.old nav.old event result shared.new nav.new }
     ensures fits { NavFits nav.new }
     ensures others { OthersStay Client.Nav shared.old.board shared.new.board }

@@ -1,10 +1,13 @@
 //! What all actors share: the board, the arrivals at the meeting places and the plan ids that are used.
 
-ghost use Rattle.std.specs.Prelude.{◌≡◌, ◌<◌};
-ghost use Rattle.vehicle_core.specs.SharedState.{arrivals_at, arrived_at};
+ghost use Rattle.std.specs.Prelude.{◌≡◌, ◌<◌, ◌≤◌, IfOk};
+ghost use Rattle.mission_model.specs.declared.limits.TheConstants.{MAX_LINKS};
+ghost use Rattle.vehicle_core.specs.SharedState.{arrivals_at, arrived_at, new_shared};
 
+use mission_model::PlanHead;
 use mission_model::limits::MAX_PLACES;
 use request_board::Board;
+use std::alloc::{AllocError, Global};
 use std::marker::Model;
 
 /// The part that all actors share.
@@ -24,6 +27,18 @@ impl Model for Shared {
 }
 
 impl Shared {
+    /// The shared part at the beginning of a boot with so many links and these plans in force, in order of `PlanType`.
+    pub fn new(alloc: Global, links: u8, heads: [PlanHead; 3]) -> Result<Shared, AllocError>
+        requires { links ≤ MAX_LINKS }
+        ensures { IfOk result (λ shared. shared ≡ new_shared heads links) }
+    {
+        Ok(Shared {
+            board: Board::new(alloc, links, 0, heads)?,
+            arrivals: [0; MAX_PLACES as usize],
+            ids: [heads[0].id, heads[1].id, heads[2].id],
+        })
+    }
+
     /// The arrivals of this boot at a meeting place, counted up to 255.
     pub fn arrivals(&self, place: u8) -> u8
         requires { place < MAX_PLACES }

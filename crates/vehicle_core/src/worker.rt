@@ -2,8 +2,7 @@
 
 ghost use Rattle.std.specs.Prelude.{◌≡◌, None, length};
 ghost use Rattle.request_board.specs.BoardState.{OutstandingStays};
-ghost use Rattle.vehicle_core.specs.Keeps.{CommitsFit};
-ghost use Rattle.vehicle_core.specs.WorkerLaw.{InputSuits, WorkerStep};
+ghost use Rattle.vehicle_core.specs.WorkerLaw.{InputSuits, WorkerStep, request_of};
 
 use crate::StepOut;
 use crate::shared::Shared;
@@ -18,12 +17,10 @@ pub fn step(
     reply: Option<Reply>,
 ) -> StepOut<Line>
     requires fits { shared.old.board.service ≡ taken.old }
-    requires suits { InputSuits taken.old reply }
-    requires commits { CommitsFit shared.old }
+    requires suits { InputSuits (request_of taken.old) reply }
     ensures step { WorkerStep shared.old taken.old reply result shared.new taken.new }
     ensures service { shared.new.board.service ≡ taken.new }
     ensures links { length shared.new.board.link_posted ≡ length shared.old.board.link_posted }
-    ensures commits { CommitsFit shared.new }
     ensures counts { OutstandingStays shared.old.board shared.new.board }
 {
     match (*taken, reply) {
@@ -37,15 +34,12 @@ pub fn step(
 }
 
 /// Takes the first request that waits.
-#[tactic(auto, using(crate::proofs::Taking::taking))]
 fn take(shared: &mut Shared, taken: &mut Option<(Client, Request)>) -> StepOut<Line>
     requires fits { shared.old.board.service ≡ None }
     requires free { taken.old ≡ None }
-    requires commits { CommitsFit shared.old }
     ensures step { WorkerStep shared.old taken.old None result shared.new taken.new }
     ensures service { shared.new.board.service ≡ taken.new }
     ensures links { length shared.new.board.link_posted ≡ length shared.old.board.link_posted }
-    ensures commits { CommitsFit shared.new }
     ensures counts { OutstandingStays shared.old.board shared.new.board }
 {
     let Some((client, request)) = shared.board.take_next() else {

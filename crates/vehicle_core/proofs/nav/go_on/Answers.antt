@@ -1,4 +1,3 @@
-use Rattle.std.proofs.Common.{◌≡◌}
 use Rattle.vehicle_core.specs.NavState.{NavState, NavFits}
 use Rattle.vehicle_core.proofs.NavStays.{NavFits-advanced}
 use Rattle.vehicle_core.proofs.nav.go_on.Goals as goal

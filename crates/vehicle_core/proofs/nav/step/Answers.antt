@@ -1,4 +1,3 @@
-use Rattle.std.proofs.Common.{◌≡◌}
 use Rattle.client_cache.specs.CacheState.{got}
 use Rattle.vehicle_core.specs.NavState.{NavState, NavFits}
 use Rattle.vehicle_core.proofs.NavStays.{got-shape, NavFits-with}
