@@ -1,7 +1,10 @@
-pub mod FirstLine
 pub mod FirstWord
-pub mod Actors
-pub mod Reading
-pub mod StatedRows
-pub mod StatedInputs
-pub mod StatedScripts
+pub mod ActorLists
+pub mod Answering
+pub mod LineSteps
+pub mod PlanSteps
+pub mod TextFaults
+pub mod Choosing
+pub mod SafeForms
+pub mod Fitting
+pub mod Flying

@@ -1,9 +1,12 @@
-pub mod Lines
 pub mod Words
 pub mod Numbers
-pub mod Rows
 pub mod Reads
-pub mod Inputs
+pub mod Actors
+pub mod Forms
+pub mod Plain
+pub mod Entries
+pub mod Measures
+pub mod Plans
 pub mod Places
 pub mod Scripts
 pub mod Flyable

@@ -1,77 +1,75 @@
--- The places among the lines of a script, and the place behind each line.
-use Rattle.std.specs.Prelude.{ℕ, List, [], ◌∷◌, ◌++◌, length, Bool, true, false, ◌&&◌, ◌||◌, nat_lt, nat_le, Option, Some, None, option_map, option_and_then, is_none, pos, if◌then◌else◌, codes}
-use Rattle.std.specs.List.{list_all, list_any}
-use Rattle.mission_model.specs.declared.limits.TheConstants.{MAX_PLANS, MAX_MISSION_ITEMS, MAX_NAME_BYTES}
-use Rattle.mission_model.specs.declared.plan.Item.{Item}
-use Rattle.mission_model.specs.declared.plan.Params.{Params}
-use Rattle.mission_model.specs.declared.plan.PlanType.TheVariants.{Mission}
-use Rattle.mission_model.specs.declared.flight_line.Actor.{Actor}
-use Rattle.mission_model.specs.declared.flight_line.Actor.TheVariants.{Link}
-use Rattle.mission_model.specs.declared.schedule.InputLine.{InputLine}
-use Rattle.mission_model.specs.declared.schedule.NamedPlan.{NamedPlan}
-use Rattle.mission_model.specs.declared.schedule.Script.{Script}
+-- The places among the lines of a script, and how each line leads from one to the next.
+use Rattle.std.specs.Prelude.{◌≡◌, ◌⊎◌, ℕ, List, length, Bool, true, false, ◌||◌, ◌==◌, Result, Ok, Err, codes, if◌then◌else◌}
+use Rattle.nav_text.specs.declared.span.Span.{Span}
+use Rattle.run_script.specs.declared.fault.ScriptFault.{ScriptFault}
+use Rattle.run_script.specs.declared.fault.ScriptFault.TheVariants as fault
+use Rattle.run_script.specs.declared.form.Form.{Form}
+use Rattle.run_script.specs.declared.form.Form.TheVariants.{Measure, Entry, Plan}
+use Rattle.run_script.specs.declared.draft.Draft.{Draft}
 use Rattle.run_script.specs.declared.place.Place.{Place}
-use Rattle.run_script.specs.declared.place.Place.TheVariants.{Top, Head, Header, Rows, Boot}
-use Rattle.run_script.specs.Words.{word, is_same, says}
-use Rattle.run_script.specs.Rows.{row_of}
-use Rattle.run_script.specs.Inputs.{has_form, items_named, input_of, has_room, more_turns}
+use Rattle.run_script.specs.declared.place.Place.TheVariants.{Top, Among, Within}
+use Rattle.run_script.specs.Words.{word, says, is_comment}
+use Rattle.run_script.specs.Forms.{form_of}
+use Rattle.run_script.specs.Entries.{empty_draft, after_entry}
+use Rattle.run_script.specs.Measures.{Measures, IsMeasureFault}
+use Rattle.run_script.specs.Plans.{new_name, plan_text, Fills, IsPlanFault}
 
--- whether a byte is one of a to z or of 0 to 9
-abbrev pub is_name_byte : ℕ → Bool
-is_name_byte byte = (nat_le 97 byte && nat_le byte 122) || (nat_le 48 byte && nat_le byte 57)
+-- whether a line is skipped: it has no word, or is a comment
+abbrev pub is_skipped : List (List ℕ) → Bool
+is_skipped words = (length words == 0) || is_comment words
 
--- whether a word may name a plan: 1 to 16 such bytes
-abbrev pub is_name : List ℕ → Bool
-is_name name = nat_lt 0 (length name) && nat_le (length name) MAX_NAME_BYTES && list_all is_name_byte name
+-- in front of the first line
+unfoldable pub after_top : List (List ℕ) → Result Place ScriptFault
+after_top words =
+    if is_skipped words then Ok Top
+    else (if says words (codes "px4 script 1") then Ok (Among empty_draft)
+    else Err fault.Unknown)
 
--- the new name that a line `plan NAME mission` gives
-unfoldable pub new_name : List NamedPlan → List (List ℕ) → Option (List ℕ)
-new_name plans words =
-    if (has_form 0 (codes "plan") 3 words && is_same (word 2 words) (codes "mission")) && (is_name (word 1 words) && is_none (items_named plans (word 1 words))) then Some (word 1 words) else None
+-- within a plan, whose text was read at its first line
+unfoldable pub after_within : Draft → List (List ℕ) → Place
+after_within draft words = if says words (codes "end") then Among draft else Within draft
 
--- in the head stand up to sixteen plans, and then `boot`
-unfoldable pub after_head : List NamedPlan → List (List ℕ) → Option Place
-after_head plans words =
-    if says words (codes "boot") then Some (Boot plans [] [])
-    else (if nat_lt (length plans) MAX_PLANS then option_map (λ name. Header plans name) (new_name plans words)
-    else None)
+-- A line of a form states this. The lines behind it are those in which a plan's text lies.
+abbrev pub States : List ℕ → List Span → Draft → Form → List (List ℕ) → Place → Type 0
+States text behind draft (Measure measure) words next = (after : Draft) × Measures draft measure words after × (next ≡ Among after)
+States text behind draft (Entry entry) words next = (after : Draft) × (after_entry draft entry words ≡ Ok after) × (next ≡ Among after)
+States text behind draft (Plan kind home_first) words next =
+    (name : List ℕ) × (after : Draft) × (new_name draft.plans (word 1 words) ≡ Ok name) × Fills draft name kind home_first (plan_text text behind) after × (next ≡ Within after)
 
--- a plan's rows are 1 to 500 waypoints, each at its place, and then `end`
-unfoldable pub after_rows : List NamedPlan → List ℕ → List Item → List (List ℕ) → Option Place
-after_rows plans name items words =
-    if says words (codes "end") then (if nat_lt 0 (length items) then Some (Head (plans ++ record { name = name; kind = Mission; items = items } ∷ [])) else None)
-    else (if nat_lt (length items) MAX_MISSION_ITEMS then option_map (λ item. Rows plans name (items ++ item ∷ [])) (row_of (length items) words)
-    else None)
+-- a line of a form has this fault
+abbrev pub IsFaultOf : List ℕ → List Span → Draft → Form → List (List ℕ) → ScriptFault → Type 0
+IsFaultOf text behind draft (Measure measure) words f = IsMeasureFault measure words f
+IsFaultOf text behind draft (Entry entry) words f = after_entry draft entry words ≡ Err f
+IsFaultOf text behind draft (Plan kind home_first) words f =
+    (new_name draft.plans (word 1 words) ≡ Err f)
+    ⊎ ((name : List ℕ) × (new_name draft.plans (word 1 words) ≡ Ok name) × IsPlanFault (plan_text text behind) f)
 
--- behind `boot` stand inputs and turns
-unfoldable pub after_boot : List NamedPlan → List (Actor × InputLine) → List Actor → List (List ℕ) → Option Place
-after_boot plans inputs turns words =
-    if is_same (word 0 words) (codes "turns") then option_map (λ turns. Boot plans inputs turns) (more_turns turns words)
-    else option_and_then (λ input. if has_room inputs input then Some (Boot plans (inputs ++ input ∷ []) turns) else None) (input_of plans words)
+-- the same of a line by its form, or by the fault in what selects it
+abbrev pub StatesBy : List ℕ → List Span → Draft → Result Form ScriptFault → List (List ℕ) → Place → Type 0
+StatesBy text behind draft (Ok form) words next = States text behind draft form words next
+StatesBy text behind draft (Err f) words next = ⊥
 
--- the place behind a line of these words, and none where they are no line of this place
-unfoldable pub after : Place → List (List ℕ) → Option Place
-after Top words = if says words (codes "px4 script 1") then Some (Head []) else None
-after (Head plans) words = after_head plans words
-after (Header plans name) words = if says words (codes "QGC WPL 110") then Some (Rows plans name []) else None
-after (Rows plans name items) words = after_rows plans name items words
-after (Boot plans inputs turns) words = after_boot plans inputs turns words
+abbrev pub IsFaultBy : List ℕ → List Span → Draft → Result Form ScriptFault → List (List ℕ) → ScriptFault → Type 0
+IsFaultBy text behind draft (Ok form) words f = IsFaultOf text behind draft form words f
+IsFaultBy text behind draft (Err g) words f = f ≡ g
 
--- whether an actor is a link
-abbrev pub is_link : Actor → Bool
-is_link (Link _) = true
-is_link _ = false
+-- a line that is skipped leaves what is stated
+abbrev pub AmongLeads : Bool → List ℕ → List Span → Draft → List (List ℕ) → Place → Type 0
+AmongLeads true text behind draft words next = next ≡ Among draft
+AmongLeads false text behind draft words next = StatesBy text behind draft (form_of draft words) words next
 
--- how many links the inputs and turns name: 1 where link 0 stands in them
-unfoldable pub links_of : List (Actor × InputLine) → List Actor → ℕ
-links_of inputs turns = if list_any (λ input. is_link input.0) inputs || list_any is_link turns then 1 else 0
+abbrev pub IsAmongFault : Bool → List ℕ → List Span → Draft → List (List ℕ) → ScriptFault → Type 0
+IsAmongFault true text behind draft words f = ⊥
+IsAmongFault false text behind draft words f = IsFaultBy text behind draft (form_of draft words) words f
 
--- no parameter is set
-abbrev pub no_params : Params
-no_params = record { tko_land = 0; takeoff_min = pos 0; max_alt = pos 0; rtl_type = 0 }
+-- a line of these words, with these lines behind it, leads from one place to the next
+abbrev pub Leads : List ℕ → List Span → Place → List (List ℕ) → Place → Type 0
+Leads text behind Top words next = after_top words ≡ Ok next
+Leads text behind (Within draft) words next = next ≡ after_within draft words
+Leads text behind (Among draft) words next = AmongLeads (is_skipped words) text behind draft words next
 
--- the script whose lines end at this place, which is behind `boot`
-unfoldable pub script_at : Place → Option Script
-script_at (Boot plans inputs turns) =
-    Some (record { params = no_params; home = None; plans = plans; boots = record { cut = None; inputs = inputs; turns = turns; params = no_params; home = None; links = links_of inputs turns; watchers = 0 } ∷ [] })
-script_at _ = None
+-- or has this fault
+abbrev pub IsLineFault : List ℕ → List Span → Place → List (List ℕ) → ScriptFault → Type 0
+IsLineFault text behind Top words f = after_top words ≡ Err f
+IsLineFault text behind (Within draft) words f = ⊥
+IsLineFault text behind (Among draft) words f = IsAmongFault (is_skipped words) text behind draft words f

@@ -1,17 +1,9 @@
--- The words of a line.
-use Rattle.std.specs.Prelude.{ℕ, List, [], length, Bool, ◌==◌, ◌||◌, nat_lt, filter, get_or, nat_eq}
-use Rattle.std.specs.List.{slice_split}
+-- The words of a script's line, by their places from 0.
+use Rattle.std.specs.Prelude.{ℕ, List, [], Bool, get_or, nat_eq, ◌==◌}
 use Rattle.std.specs.Cmp.Lexicographic.{pointwise}
+use Rattle.nav_text.specs.Words.{words_in}
 
--- whether a byte is a space or a tab
-abbrev pub is_blank : ℕ → Bool
-is_blank byte = (byte == 32) || (byte == 9)
-
--- the words of a line: its longest runs of bytes other than space and tab
-unfoldable pub words_of : List ℕ → List (List ℕ)
-words_of line = filter (λ piece. nat_lt 0 (length piece)) (slice_split is_blank line)
-
--- the word at a place, from 0, and no bytes past the last
+-- the word at a place, and no bytes past the last
 abbrev pub word : ℕ → List (List ℕ) → List ℕ
 word place words = get_or words place []
 
@@ -21,4 +13,8 @@ is_same word text = pointwise nat_eq word text
 
 -- whether the words are those of this text
 unfoldable pub says : List (List ℕ) → List ℕ → Bool
-says words text = pointwise is_same words (words_of text)
+says words text = pointwise is_same words (words_in text)
+
+-- whether a line's first word begins with `#`
+abbrev pub is_comment : List (List ℕ) → Bool
+is_comment words = get_or (word 0 words) 0 0 == 35

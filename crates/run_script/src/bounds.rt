@@ -1,28 +1,21 @@
-//! The numbers of the script's form, by name. The product's limits stand in `mission_model::limits`.
+//! The numbers of the script's form, by name. The product's limits stand in `mission_model::limits`, and those of a
+//! text in `nav_text`.
 
 /// Bytes of a script.
-pub const MAX_SCRIPT_BYTES: usize = 4_194_304;
-/// Bytes of a line.
-pub const MAX_LINE_BYTES: usize = 512;
+pub const MAX_SCRIPT_BYTES: usize = nav_text::MAX_TEXT_BYTES;
 /// Digits of a whole number.
 pub const MAX_DIGITS: usize = 10;
 
-/// Words of a plan's row.
-pub const ROW_WORDS: usize = 12;
-/// MAV_FRAME_GLOBAL.
-pub const GLOBAL_FRAME: u16 = 0;
-/// MAV_CMD_NAV_WAYPOINT.
-pub const WAYPOINT: u16 = 16;
-/// The greatest number of a waypoint's four parameters.
-pub const MAX_PARAM: u64 = 1000;
-/// Degrees of latitude.
-pub const MAX_LATITUDE: u64 = 90;
-/// Degrees of longitude.
-pub const MAX_LONGITUDE: u64 = 180;
-/// Metres of height.
-pub const MAX_HEIGHT: u64 = 1000;
+/// Heights are millimetres.
+pub const HEIGHT_SCALE: u8 = 3;
+/// Latitude and longitude are 1e-7 degree.
+pub const PLACE_SCALE: u8 = 7;
 
-/// A degree in 1e-7 degree.
-pub const DEGREE: i32 = 10_000_000;
-/// A whole number in thousandths.
-pub const WHOLE: i32 = 1000;
+/// Latitude in 1e-7 degree, north of the equator and south of it.
+pub const MAX_LATITUDE: i32 = 900_000_000;
+/// Longitude in 1e-7 degree, east of Greenwich and west of it.
+pub const MAX_LONGITUDE: i32 = 1_800_000_000;
+/// The lowest height of a home.
+pub const MIN_HEIGHT: i32 = -10_000_000;
+/// The greatest height of a home.
+pub const MAX_HEIGHT: i32 = 100_000_000;

@@ -1,15 +1,20 @@
-//! Reads a script: the plans that are flown, one boot, and the inputs and turns of its actors.
-//! A line is judged by its place among the lines before it and by its words alone.
+//! Reads a script: parameters, the home and plans, one boot, and the inputs and turns of its actors. A line is judged
+//! by what the lines before it state and by its own words; a plan's text is judged at the line that begins it.
 #![tactic(auto)]
 
+mod actors;
 pub mod bounds;
+mod draft;
+mod entries;
 mod fault;
-mod inputs;
-mod lines;
+mod flight;
+mod form;
+mod measures;
 mod numbers;
 mod place;
+mod plans;
 mod read;
-mod row;
+mod select;
 #[cfg(test)]
 mod tests;
 mod words;

@@ -1,9 +1,14 @@
-//! The whole numbers and degrees that words write.
+//! The whole numbers that words write.
 
-ghost use Rattle.std.specs.Prelude.{◌≡◌, ◌<◌, ◌≤◌, ◌^◌, length, IfSome};
-ghost use Rattle.run_script.specs.Numbers.{whole_of, whole_within, is_within, degrees_within};
+ghost use Rattle.std.specs.Prelude.{◌≡◌, ◌<◌, ◌≤◌, ◌^◌, length, IfSome, IfOk};
+ghost use Rattle.nav_text.specs.Words.{words_in};
+ghost use Rattle.run_script.specs.Numbers.{whole_of, whole_within, is_within};
+ghost use Rattle.run_script.specs.Reads.{Gives};
+ghost use Rattle.run_script.specs.Entries.{number_in};
 
-use crate::bounds::{DEGREE, MAX_DIGITS};
+use crate::bounds::MAX_DIGITS;
+use crate::fault::{ScriptFault, Stop};
+use crate::words::word;
 
 /// The whole number that a word of one to ten digits writes.
 #[tactic(auto, unfolding(crate::specs::Numbers::whole_of))]
@@ -27,7 +32,7 @@ fn whole(word: &[u8]) -> Option<u64>
 #[tactic(auto, unfolding(crate::specs::Numbers::whole_within))]
 pub(crate) fn whole_within(low: u64, high: u64, word: &[u8]) -> Option<u64>
     ensures value { result ≡ whole_within low high word.now }
-    ensures within { IfSome result (λ n. n ≤ high) }
+    ensures within { IfSome result (λ n. (low ≤ n) × (n ≤ high)) }
 {
     let n = whole(word)?;
     if low <= n && n <= high { Some(n) } else { None }
@@ -40,17 +45,15 @@ pub(crate) fn is_within(low: u64, high: u64, word: &[u8]) -> bool
     whole_within(low, high, word).is_some()
 }
 
-/// The whole degrees that a word writes, in 1e-7 degree.
-#[tactic(auto, unfolding(crate::specs::Numbers::degrees_within))]
-pub(crate) fn degrees_within(limit: u64, word: &[u8]) -> Option<i32>
-    requires { limit ≤ 180 }
-    ensures { result ≡ degrees_within limit word.now }
+/// The whole number of a range that a field's word is. Fields are numbered from 1.
+#[tactic(auto, unfolding(crate::specs::Entries::number_in))]
+pub(crate) fn number_in(field: u8, low: u64, high: u64, line: &[u8]) -> Result<u64, Stop>
+    requires { 0 < field }
+    ensures number { Gives result (number_in field low high (words_in line.now)) }
+    ensures within { IfOk result (λ n. (low ≤ n) × (n ≤ high)) }
 {
-    if word.first() == Some(&b'-') {
-        let n = whole_within(0, limit, &word[1..])?;
-        Some(-(n as i32 * DEGREE))
-    } else {
-        let n = whole_within(0, limit, word)?;
-        Some(n as i32 * DEGREE)
+    match whole_within(low, high, word(usize::from(field) - 1, line)) {
+        Some(number) => Ok(number),
+        None => Err(Stop::Fault(ScriptFault::Number(field))),
     }
 }

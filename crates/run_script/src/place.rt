@@ -1,20 +1,25 @@
-//! The places among the lines of a script: what has been read, and which lines may follow.
+//! The places among the lines of a script, and how each line leads from one to the next.
 
-ghost use Rattle.std.specs.Prelude.{◌≡◌, ◌<◌, ◌≤◌};
-ghost use Rattle.std.specs.List.{list_all, list_any};
-ghost use Rattle.run_script.specs.Words.{words_of};
-ghost use Rattle.run_script.specs.Reads.{Reads};
-ghost use Rattle.run_script.specs.Places.{is_name_byte, is_name, new_name, after_head, after_rows, after_boot, after, is_link, links_of, script_at};
+ghost use Rattle.std.specs.Prelude.{◌≡◌, ◌≤◌, length, All};
+ghost use Rattle.nav_text.specs.Spans.{IsInside};
+ghost use Rattle.nav_text.specs.Words.{words_in};
+ghost use Rattle.run_script.specs.Words.{word};
+ghost use Rattle.run_script.specs.Reads.{Gives, Answers};
+ghost use Rattle.run_script.specs.Entries.{empty_draft};
+ghost use Rattle.run_script.specs.Places.{after_top, after_within, States, IsFaultOf, StatesBy, IsFaultBy, Leads, IsLineFault};
+ghost use Rattle.run_script.specs.Forms.{form_of};
 
-use crate::fault::ScriptFault;
-use crate::inputs::{has_form, has_room, input, items_named, more_turns};
-use crate::row::row;
-use crate::words::{says, word};
-use mission_model::limits::{MAX_MISSION_ITEMS, MAX_NAME_BYTES, MAX_PLANS};
-use mission_model::{
-    Actor, BootScript, Boots, InputLine, Inputs, Items, Name, NamedPlan, Params, PlanType, Plans,
-    Script, Turns,
-};
+use crate::bounds::MAX_SCRIPT_BYTES;
+use crate::draft::{Draft, Flags};
+use crate::entries::after_entry;
+use crate::fault::{ScriptFault, Stop};
+use crate::form::Form;
+use crate::measures::after_measure;
+use crate::plans::{fill, new_name, plan_text};
+use crate::select::form_of;
+use crate::words::{is_skipped, says, word};
+use mission_model::{Inputs, Params, PlanType, Plans, Turns};
+use nav_text::Span;
 use std::alloc::Global;
 
 /// A place among the lines of a script, with all that its lines stated so far.
@@ -22,242 +27,143 @@ use std::alloc::Global;
 pub enum Place {
     /// In front of the first line.
     Top,
-    /// Among the plans of the head.
-    Head {
-        plans: Plans,
-    },
-    /// Behind a line `plan`, where the header of its text comes.
-    Header {
-        plans: Plans,
-        name: Name,
-    },
-    /// Among the rows of a plan.
-    Rows {
-        plans: Plans,
-        name: Name,
-        items: Items,
-    },
-    /// Behind `boot`.
-    Boot {
-        plans: Plans,
-        inputs: Inputs,
-        turns: Turns,
-    },
+    /// Behind a line of the script.
+    Among(Draft),
+    /// Within a plan, whose text was read at its first line.
+    Within(Draft),
 }
 
-fn is_name_byte(byte: u8) -> bool
-    ensures { result ≡ is_name_byte byte }
+fn empty_draft(alloc: Global) -> Draft
+    ensures { result ≡ empty_draft }
 {
-    byte.is_ascii_lowercase() || byte.is_ascii_digit()
-}
-
-fn are_name_bytes(name: &[u8]) -> bool
-    ensures { result ≡ list_all is_name_byte name.now }
-{
-    name.iter().all(|byte| is_name_byte(*byte))
-}
-
-fn is_name(name: &[u8]) -> bool
-    ensures { result ≡ is_name name.now }
-{
-    !name.is_empty() && name.len() <= MAX_NAME_BYTES && are_name_bytes(name)
-}
-
-/// The new name that a line `plan` gives.
-#[tactic(auto, unfolding(crate::specs::Places::new_name))]
-fn new_name(alloc: Global, plans: &[NamedPlan], line: &[u8]) -> Result<Name, ScriptFault>
-    ensures { Reads result (new_name plans.now (words_of line.now)) }
-{
-    let name = word(1, line);
-    if has_form(0, b"plan", 3, line)
-        && word(2, line) == b"mission".as_slice()
-        && is_name(name)
-        && items_named(plans, name).is_none()
-    {
-        Ok(Name::from_vec(Vec::from_slice(alloc, name)?))
-    } else {
-        Err(ScriptFault::NotYet)
-    }
-}
-
-#[tactic(auto, unfolding(crate::specs::Places::after_head))]
-fn after_head(alloc: Global, plans: Plans, line: &[u8]) -> Result<Place, ScriptFault>
-    ensures { Reads result (after_head plans (words_of line.now)) }
-{
-    if says(line, b"boot") {
-        Ok(Place::Boot {
-            plans,
-            inputs: Inputs::from_vec(Vec::new(alloc)),
-            turns: Turns::from_vec(Vec::new(alloc)),
-        })
-    } else if plans.as_slice().len() < MAX_PLANS {
-        let name = new_name(alloc, plans.as_slice(), line)?;
-        Ok(Place::Header { plans, name })
-    } else {
-        Err(ScriptFault::NotYet)
-    }
-}
-
-#[tactic(auto, unfolding(crate::specs::Places::after_rows))]
-fn after_rows(plans: Plans, name: Name, items: Items, line: &[u8]) -> Result<Place, ScriptFault>
-    ensures { Reads result (after_rows plans name items (words_of line.now)) }
-{
-    let mut rows = items.into_vec();
-    if says(line, b"end") {
-        if rows.is_empty() {
-            return Err(ScriptFault::NotYet);
-        }
-        let mut list = plans.into_vec();
-        list.push(NamedPlan {
-            name,
-            kind: PlanType::Mission,
-            items: Items::from_vec(rows),
-        })?;
-        Ok(Place::Head {
-            plans: Plans::from_vec(list),
-        })
-    } else if rows.len() < usize::from(MAX_MISSION_ITEMS) {
-        let item = row(rows.len(), line).ok_or(ScriptFault::NotYet)?;
-        rows.push(item)?;
-        Ok(Place::Rows {
-            plans,
-            name,
-            items: Items::from_vec(rows),
-        })
-    } else {
-        Err(ScriptFault::NotYet)
-    }
-}
-
-#[tactic(auto, unfolding(crate::specs::Places::after_boot))]
-fn after_boot(
-    alloc: Global,
-    plans: Plans,
-    inputs: Inputs,
-    turns: Turns,
-    line: &[u8],
-) -> Result<Place, ScriptFault>
-    ensures { Reads result (after_boot plans inputs turns (words_of line.now)) }
-{
-    if word(0, line) == b"turns".as_slice() {
-        let turns = more_turns(alloc, turns, line)?;
-        return Ok(Place::Boot {
-            plans,
-            inputs,
-            turns,
-        });
-    }
-    let input = input(alloc, plans.as_slice(), line)?;
-    if !has_room(inputs.as_slice(), &input) {
-        return Err(ScriptFault::NotYet);
-    }
-    let mut list = inputs.into_vec();
-    list.push(input)?;
-    Ok(Place::Boot {
-        plans,
-        inputs: Inputs::from_vec(list),
-        turns,
-    })
-}
-
-fn is_link(actor: &Actor) -> bool
-    ensures { result ≡ is_link actor.now }
-{
-    matches!(actor, Actor::Link(_))
-}
-
-fn have_link_input(inputs: &[(Actor, InputLine)]) -> bool
-    ensures { result ≡ list_any (λ input. is_link input.0) inputs.now }
-{
-    inputs.iter().any(|input| is_link(&input.0))
-}
-
-fn have_link(turns: &[Actor]) -> bool
-    ensures { result ≡ list_any is_link turns.now }
-{
-    turns.iter().any(|actor| is_link(actor))
-}
-
-#[tactic(auto, unfolding(crate::specs::Places::links_of))]
-fn links(inputs: &[(Actor, InputLine)], turns: &[Actor]) -> u8
-    ensures { result ≡ links_of inputs.now turns.now }
-{
-    if have_link_input(inputs) || have_link(turns) {
-        1
-    } else {
-        0
-    }
-}
-
-impl Place {
-    /// The place behind a line.
-    #[tactic(auto, unfolding(crate::specs::Places::after))]
-    pub(crate) fn after(self, alloc: Global, line: &[u8]) -> Result<Place, ScriptFault>
-        ensures { Reads result (after self (words_of line.now)) }
-    {
-        match self {
-            Place::Top => {
-                if says(line, b"px4 script 1") {
-                    Ok(Place::Head {
-                        plans: Plans::from_vec(Vec::new(alloc)),
-                    })
-                } else {
-                    Err(ScriptFault::NotYet)
-                }
-            },
-            Place::Head { plans } => after_head(alloc, plans, line),
-            Place::Header { plans, name } => {
-                if says(line, b"QGC WPL 110") {
-                    let items = Items::from_vec(Vec::new(alloc));
-                    Ok(Place::Rows { plans, name, items })
-                } else {
-                    Err(ScriptFault::NotYet)
-                }
-            },
-            Place::Rows { plans, name, items } => after_rows(plans, name, items, line),
-            Place::Boot {
-                plans,
-                inputs,
-                turns,
-            } => after_boot(alloc, plans, inputs, turns, line),
-        }
-    }
-
-    /// The script whose lines end here.
-    #[tactic(auto, unfolding(crate::specs::Places::script_at))]
-    pub(crate) fn script(self, alloc: Global) -> Result<Script, ScriptFault>
-        ensures { Reads result (script_at self) }
-    {
-        let Place::Boot {
-            plans,
-            inputs,
-            turns,
-        } = self
-        else {
-            return Err(ScriptFault::NotYet);
-        };
-        let params = Params {
+    Draft {
+        params: Params {
             tko_land: 0,
             takeoff_min: 0,
             max_alt: 0,
             rtl_type: 0,
-        };
-        let boot = BootScript {
-            cut: None,
-            links: links(inputs.as_slice(), turns.as_slice()),
-            inputs,
-            turns,
-            params,
-            home: None,
-            watchers: 0,
-        };
-        let mut boots = Vec::new(alloc);
-        boots.push(boot)?;
-        Ok(Script {
-            params,
-            home: None,
-            plans,
-            boots: Boots::from_vec(boots),
-        })
+        },
+        home: None,
+        plans: Plans::from_vec(Vec::new(alloc)),
+        plain: Flags::from_vec(Vec::new(alloc)),
+        has_param: false,
+        booted: false,
+        inputs: Inputs::from_vec(Vec::new(alloc)),
+        turns: Turns::from_vec(Vec::new(alloc)),
+    }
+}
+
+#[tactic(auto, unfolding(crate::specs::Places::after_top))]
+fn after_top(alloc: Global, line: &[u8]) -> Result<Place, Stop>
+    ensures { Gives result (after_top (words_in line.now)) }
+{
+    if is_skipped(line) {
+        Ok(Place::Top)
+    } else if says(line, b"px4 script 1") {
+        Ok(Place::Among(empty_draft(alloc)))
+    } else {
+        Err(Stop::Fault(ScriptFault::Unknown))
+    }
+}
+
+#[tactic(auto, unfolding(crate::specs::Places::after_within))]
+fn after_within(draft: Draft, line: &[u8]) -> Place
+    ensures { result ≡ after_within draft (words_in line.now) }
+{
+    if says(line, b"end") {
+        Place::Among(draft)
+    } else {
+        Place::Within(draft)
+    }
+}
+
+/// The place behind the first line of a plan.
+fn after_plan(
+    alloc: Global,
+    text: &[u8],
+    behind: &[Span],
+    draft: Draft,
+    kind: PlanType,
+    home_first: bool,
+    line: &[u8],
+) -> Result<Place, Stop>
+    requires inside { All (IsInside text.now) behind.now }
+    requires room { length text.now ≤ MAX_SCRIPT_BYTES }
+    ensures { Answers result (States text.now behind.now draft (Form.Plan kind home_first) (words_in line.now)) (IsFaultOf text.now behind.now draft (Form.Plan kind home_first) (words_in line.now)) }
+{
+    let name = new_name(alloc, draft.plans.as_slice(), word(1, line))?;
+    let Some(plan) = plan_text(text, behind) else {
+        return Ok(Place::Within(draft));
+    };
+    let draft = fill(alloc, draft, name, kind, home_first, plan)?;
+    Ok(Place::Within(draft))
+}
+
+/// The place behind a line of a form.
+fn after_form(
+    alloc: Global,
+    text: &[u8],
+    behind: &[Span],
+    draft: Draft,
+    form: Form,
+    line: &[u8],
+) -> Result<Place, Stop>
+    requires inside { All (IsInside text.now) behind.now }
+    requires room { length text.now ≤ MAX_SCRIPT_BYTES }
+    ensures { Answers result (States text.now behind.now draft form (words_in line.now)) (IsFaultOf text.now behind.now draft form (words_in line.now)) }
+{
+    match form {
+        Form::Measure(measure) => {
+            let draft = after_measure(draft, measure, line)?;
+            Ok(Place::Among(draft))
+        }
+        Form::Entry(entry) => {
+            let draft = after_entry(alloc, draft, entry, line)?;
+            Ok(Place::Among(draft))
+        }
+        Form::Plan { kind, home_first } => {
+            after_plan(alloc, text, behind, draft, kind, home_first, line)
+        }
+    }
+}
+
+/// The place behind a line that is not skipped.
+fn after_told(
+    alloc: Global,
+    text: &[u8],
+    behind: &[Span],
+    draft: Draft,
+    line: &[u8],
+) -> Result<Place, Stop>
+    requires inside { All (IsInside text.now) behind.now }
+    requires room { length text.now ≤ MAX_SCRIPT_BYTES }
+    ensures { Answers result (StatesBy text.now behind.now draft (form_of draft (words_in line.now)) (words_in line.now)) (IsFaultBy text.now behind.now draft (form_of draft (words_in line.now)) (words_in line.now)) }
+{
+    let form = form_of(&draft, line)?;
+    after_form(alloc, text, behind, draft, form, line)
+}
+
+/// The place behind a line, which has these lines behind it.
+pub(crate) fn after(
+    alloc: Global,
+    text: &[u8],
+    behind: &[Span],
+    place: Place,
+    line: &[u8],
+) -> Result<Place, Stop>
+    requires inside { All (IsInside text.now) behind.now }
+    requires room { length text.now ≤ MAX_SCRIPT_BYTES }
+    ensures { Answers result (Leads text.now behind.now place (words_in line.now)) (IsLineFault text.now behind.now place (words_in line.now)) }
+{
+    match place {
+        Place::Top => after_top(alloc, line),
+        Place::Within(draft) => Ok(after_within(draft, line)),
+        Place::Among(draft) => {
+            if is_skipped(line) {
+                Ok(Place::Among(draft))
+            } else {
+                after_told(alloc, text, behind, draft, line)
+            }
+        }
     }
 }

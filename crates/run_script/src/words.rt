@@ -1,8 +1,10 @@
-//! The words of a line, one after another and by their places.
+//! The words of a line, one after another and by their places. They are looked at where they stand, without memory.
 
-ghost use Rattle.std.specs.Prelude.{◌≡◌, ◌<◌, ◌≤◌, ◌∷◌, [], length, MatchOption};
+ghost use Rattle.std.specs.Prelude.{◌≡◌, ◌<◌, ◌≤◌, ◌∷◌, ◌==◌, [], length, get_or, MatchOption};
 ghost use Rattle.std.specs.List.{position_or_len, prefix_len};
-ghost use Rattle.run_script.specs.Words.{is_blank, words_of, word, says};
+ghost use Rattle.nav_text.specs.Words.{is_blank, words_in};
+ghost use Rattle.run_script.specs.Words.{word, is_same, says};
+ghost use Rattle.run_script.specs.Places.{is_skipped};
 
 fn is_blank(byte: u8) -> bool
     ensures { result ≡ is_blank byte }
@@ -38,7 +40,7 @@ fn word_len(text: &[u8]) -> usize
 
 /// The first word of a line, and what stands behind it.
 pub(crate) fn next_word(line: &[u8]) -> Option<(&[u8], &[u8])>
-    ensures { MatchOption result (words_of line.now ≡ []) (λ parts. (words_of line.now ≡ parts.0.now ∷ words_of parts.1.now) × (length parts.1.now < length line.now)) }
+    ensures { MatchOption result (words_in line.now ≡ []) (λ parts. (words_in line.now ≡ parts.0.now ∷ words_in parts.1.now) × (length parts.1.now < length line.now)) }
 {
     let text = &line[blanks_len(line)..];
     if text.is_empty() {
@@ -50,7 +52,7 @@ pub(crate) fn next_word(line: &[u8]) -> Option<(&[u8], &[u8])>
 
 /// The word at a place, from 0; no bytes past the last.
 pub(crate) fn word(place: usize, line: &[u8]) -> &[u8]
-    ensures { result.now ≡ word place (words_of line.now) }
+    ensures { result.now ≡ word place (words_in line.now) }
 {
     match next_word(line) {
         Some((first, behind)) => {
@@ -66,7 +68,7 @@ pub(crate) fn word(place: usize, line: &[u8]) -> &[u8]
 
 /// How many words a line has.
 pub(crate) fn count_words(line: &[u8]) -> usize
-    ensures { result ≡ length (words_of line.now) }
+    ensures { result ≡ length (words_in line.now) }
 {
     let mut rest = line;
     let mut count = 0;
@@ -80,11 +82,38 @@ pub(crate) fn count_words(line: &[u8]) -> usize
 /// Whether a line's words are those of a text.
 #[tactic(auto, unfolding(crate::specs::Words::says))]
 pub(crate) fn says(line: &[u8], text: &[u8]) -> bool
-    ensures { result ≡ says (words_of line.now) text.now }
+    ensures { result ≡ says (words_in line.now) text.now }
 {
     match (next_word(line), next_word(text)) {
         (Some((left, line)), Some((right, text))) => left == right && says(line, text),
         (None, None) => true,
         _ => false,
+    }
+}
+
+/// Whether the word at a place, from 0, is this one.
+pub(crate) fn is(place: usize, line: &[u8], name: &[u8]) -> bool
+    ensures { result ≡ is_same (word place (words_in line.now)) name.now }
+{
+    word(place, line) == name
+}
+
+/// Whether a word begins a comment.
+fn begins_comment(word: &[u8]) -> bool
+    ensures { result ≡ (get_or word.now 0 0 == 35) }
+{
+    match word {
+        [] => false,
+        [first, ..] => *first == b'#',
+    }
+}
+
+/// Whether a line has no word, or is a comment.
+pub(crate) fn is_skipped(line: &[u8]) -> bool
+    ensures { result ≡ is_skipped (words_in line.now) }
+{
+    match next_word(line) {
+        Some((first, _)) => begins_comment(first),
+        None => true,
     }
 }

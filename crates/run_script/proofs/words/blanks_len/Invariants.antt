@@ -1,6 +1,6 @@
 use Rattle.std.proofs.Common.{◌≡◌, ◌+◌, drop}
 use Rattle.std.specs.List.{prefix_len}
-use Rattle.run_script.specs.Words.{is_blank}
+use Rattle.nav_text.specs.Words.{is_blank}
 use Rattle.run_script.proofs.words.blanks_len.Given as goal
 
 abbrev pub invariant-loop-i : goal.invariant-loop-i
