@@ -1,0 +1,10 @@
+pub mod Store
+pub mod Turn
+pub mod Flight
+pub mod RunState
+pub mod Outcome
+pub mod Tied
+pub mod OneVehicle
+pub mod Judgement
+pub mod Checked
+pub mod Commands

@@ -1,0 +1,54 @@
+-- What the parts of a run add to a record, between one state of core and store and another.
+use Rattle.std.specs.Prelude.{◌≡◌, ℕ, List, [], ◌∷◌, ◌++◌}
+use Rattle.mission_model.specs.declared.flight_line.Actor.{Actor}
+use Rattle.mission_model.specs.declared.flight_line.Line.{Line}
+use Rattle.vehicle_core.specs.declared.StepOut.{StepOut}
+use Rattle.vehicle_core.specs.CoreState.{CoreState}
+use Rattle.flight_runner.specs.Store.{StoreState}
+use Rattle.flight_runner.specs.Turn.{Turn, Acts, Rounds, line_of}
+use Rattle.flight_runner.specs.Flight.{IsEnding}
+
+-- one turn, and its line
+pub record Acted (s : CoreState) (st : StoreState) (actor : Actor) (old : List Line) (s' : CoreState) (st' : StoreState) (new : List Line) : Type 0 where
+  pub out : StepOut Line
+  pub turn : Turn s st actor out s' st'
+  pub lines : new ≡ old ++ line_of out
+
+-- the turns of these actors, and their lines
+pub record ActedAll (s : CoreState) (st : StoreState) (actors : List Actor) (old : List Line) (s' : CoreState) (st' : StoreState) (new : List Line) : Type 0 where
+  pub made : List Line
+  pub acts : Acts s st actors made s' st'
+  pub lines : new ≡ old ++ made
+
+-- the turns of some actors, and their lines
+pub record SoFar (s : CoreState) (st : StoreState) (old : List Line) (s' : CoreState) (st' : StoreState) (new : List Line) : Type 0 where
+  pub actors : List Actor
+  pub acted : ActedAll s st actors old s' st' new
+
+-- rounds, of which each makes a line, and their lines
+pub record WentOn (s : CoreState) (st : StoreState) (round : List Actor) (old : List Line) (s' : CoreState) (st' : StoreState) (new : List Line) : Type 0 where
+  pub count : ℕ
+  pub made : List Line
+  pub rounds : Rounds round count s st made s' st'
+  pub lines : new ≡ old ++ made
+
+-- rounds, of which each makes a line, their lines, and a round that makes none
+pub record WentRound (s : CoreState) (st : StoreState) (round : List Actor) (old : List Line) (s' : CoreState) (st' : StoreState) (new : List Line) : Type 0 where
+  pub rounded : CoreState
+  pub rounded_store : StoreState
+  pub went : WentOn s st round old rounded rounded_store new
+  pub still : Acts rounded rounded_store round [] s' st'
+
+-- the stated turns, the rounds, and the line that ends the boot
+pub record Flew (s : CoreState) (st : StoreState) (turns : List Actor) (round : List Actor) (old new : List Line) : Type 0 where
+  pub turned : CoreState
+  pub turned_store : StoreState
+  pub turned_lines : List Line
+  pub stated : ActedAll s st turns old turned turned_store turned_lines
+  pub last : CoreState
+  pub last_store : StoreState
+  pub last_lines : List Line
+  pub went : WentRound turned turned_store round turned_lines last last_store last_lines
+  pub ending_line : Line
+  pub ending : IsEnding last ending_line
+  pub lines : new ≡ last_lines ++ ending_line ∷ []

@@ -1,0 +1,94 @@
+-- What ties the core and the store to the abstract vehicle. Each part names only what it reads, so that a step which
+-- leaves that alone hands the part on as it is.
+use Rattle.std.specs.Prelude.{◌≡◌, ℕ, ◌+◌, ◌<◌, ◌≤◌, Bool, false, List, [], ◌∷◌, length, take, Some, None, option_map, slice_get, slice_index_or}
+use Rattle.std.specs.List.{All}
+use Rattle.mission_model.specs.declared.command.TheConstants.{NAV_WAYPOINT}
+use Rattle.mission_model.specs.declared.plan.Item.{Item}
+use Rattle.mission_model.specs.declared.plan.PlanHead.{PlanHead}
+use Rattle.mission_model.specs.declared.plan.PlanType.TheVariants.{Mission}
+use Rattle.mission_model.specs.declared.request.Client.TheVariants as client
+use Rattle.mission_model.specs.declared.request.Asked.{Asked}
+use Rattle.mission_model.specs.declared.request.Asked.TheVariants as about
+use Rattle.mission_model.specs.declared.request.Reply.{Reply}
+use Rattle.mission_model.specs.declared.request.Reply.TheVariants as reply
+use Rattle.mission_model.specs.declared.schedule.InputLine.{InputLine}
+use Rattle.mission_model.specs.declared.schedule.InputLine.TheVariants as input
+use Rattle.mission_model.specs.declared.vehicle.Mode.{Mode}
+use Rattle.request_board.specs.BoardState.{posted}
+use Rattle.request_board.specs.BoardCalls.{in_service}
+use Rattle.plan_vehicle.specs.PlanState.{PlanState, DraftState, told_at, draft_of}
+use Rattle.plan_vehicle.specs.VehicleState.{VehicleState, ServedState, last_served, reply_of}
+use Rattle.plan_vehicle.specs.VehicleStep.{IsDoneCommit}
+use Rattle.vehicle_core.specs.declared.link.Session.{Session}
+use Rattle.vehicle_core.specs.declared.link.Session.TheVariants as session
+use Rattle.vehicle_core.specs.SharedState.{mission_head, fence_id, last_id}
+use Rattle.vehicle_core.specs.LinkState.{LinkState}
+use Rattle.vehicle_core.specs.NavState.{NavState}
+use Rattle.vehicle_core.specs.CoreState.{CoreState}
+use Rattle.flight_runner.specs.Store as store
+
+-- the store's mission is the vehicle's: each told item is the store's, all are waypoints, and the head is published
+pub record PlanTied (p : PlanState) (plan : store.PlanState) (head : PlanHead) : Type 0 where
+  pub id : plan.id ≡ p.id
+  pub count : length p.items ≡ length plan.items
+  pub told : (seq : ℕ) (item : Item) → told_at p seq ≡ Some item → slice_get plan.items seq ≡ Some item
+  pub waypoints : (seq : ℕ) (item : Item) → slice_get plan.items seq ≡ Some item → item.command ≡ NAV_WAYPOINT
+  pub head_id : head.id ≡ p.id
+  pub head_count : head.count ≡ length p.items
+
+-- the item was told of the mission of this id, which is in force or was
+pub record KnownAt (p : PlanState) (id seq : ℕ) (item : Item) : Type 0 where
+  pub earlier : id ≤ p.id
+  pub is : id ≡ p.id → told_at p seq ≡ Some item
+
+-- an item that was replied was told
+abbrev pub ReplyFits : PlanState → Asked × Reply → Type 0
+ReplyFits p (about.Read Mission id seq, reply.Item item) = KnownAt p id seq item
+ReplyFits p other = Unit {0}
+
+-- the Navigator's cache holds items that were told of the mission that it adopted; where that is in force, index and
+-- leg are the vehicle's; where a newer one is, the vehicle is at its first item
+pub record NavTied (p : PlanState) (mode : Mode) (index : ℕ) (at_leg : Bool) (n : NavState) : Type 0 where
+  pub mode_is : mode ≡ n.mode
+  pub earlier : n.cache.id ≤ p.id
+  pub cache : (seq : ℕ) (item : Item) → slice_index_or n.cache.known seq None ≡ Some item → KnownAt p n.cache.id seq item
+  pub index_is : n.cache.id ≡ p.id → index ≡ n.index
+  pub leg_is : n.cache.id ≡ p.id → at_leg ≡ n.at_leg
+  pub fresh : n.cache.id < p.id → (index ≡ 0) × (at_leg ≡ false)
+
+-- the items of the upload that is the current input
+abbrev pub upload_of : List InputLine → List Item
+upload_of (input.Upload kind items ∷ rest) = items
+upload_of inputs = []
+
+-- the drafts of vehicle and store, by where the session of an upload of these items stands: the vehicle's has the items
+-- that were sent, the store's those of the writes that were served, until the commit is
+abbrev pub SessionTied : ℕ → List DraftState → store.PlanState → List (Asked × Reply) → List Item → Session → Type 0
+SessionTied current drafts draft replies items session.Free = Unit {0}
+SessionTied current drafts draft replies items (session.Receiving id count seq) = (draft_of drafts Mission id ≡ take seq items) × (store.front_of draft id seq ≡ take seq items)
+SessionTied current drafts draft replies items (session.Writing id count seq) =
+    (draft_of drafts Mission id ≡ take (seq + 1) items) × (store.front_of draft id seq ≡ take seq items)
+    × (0 < length replies → store.front_of draft id (seq + 1) ≡ take (seq + 1) items)
+SessionTied current drafts draft replies items (session.Committing id count) =
+    (draft_of drafts Mission id ≡ items) × (current < id → store.front_of draft id count ≡ items)
+    × All (λ said. IsDoneCommit said.0 said.1) replies
+
+-- the request of the link that was served last, with its reply
+abbrev pub IsLast : List ServedState → ℕ → Asked × Reply → Type 0
+IsLast served link said = option_map reply_of (last_served served link) ≡ Some said
+
+-- what is posted to a link is the reply to its request that was served last, and the drafts are those of its session
+pub record LinkTied (current : ℕ) (drafts : List DraftState) (served : List ServedState) (draft : store.PlanState) (replies : List (Asked × Reply)) (l : LinkState) : Type 0 where
+  pub last : All (IsLast served l.number) replies
+  pub session : SessionTied current drafts draft replies (upload_of l.schedule.inputs) l.session
+
+-- the vehicle is that of the core over the store
+pub record Tied (v : VehicleState) (st : store.StoreState) (c : CoreState) : Type 0 where
+  pub service : v.service ≡ in_service c.taken
+  pub mission : PlanTied v.mission st.mission.plan (mission_head c.shared)
+  pub fence : v.fence.id ≡ fence_id c.shared
+  pub wanted : v.wanted ≡ None
+  pub replies : All (ReplyFits v.mission) c.shared.board.nav_posted
+  pub nav : NavTied v.mission v.mode v.index v.at_leg c.nav
+  pub unused : (id : ℕ) → last_id c.shared < id → draft_of v.drafts Mission id ≡ []
+  pub links : (k : ℕ) (d : LinkState) → k < length c.links → LinkTied v.mission.id v.drafts v.served st.mission.draft (posted c.shared.board (client.Link k)) (slice_index_or c.links k d)

@@ -1,0 +1,48 @@
+-- The actors' turns over the store, in a stated order.
+use Rattle.std.specs.Prelude.{◌≡◌, ℕ, ◌<◌, zero, suc, List, [], ◌∷◌, ◌++◌, length, Option, Some, None}
+use Rattle.mission_model.specs.declared.request.Request.{Request}
+use Rattle.mission_model.specs.declared.flight_line.Actor.{Actor}
+use Rattle.mission_model.specs.declared.flight_line.Actor.TheVariants.{Worker, Link, Nav, Watch}
+use Rattle.mission_model.specs.declared.flight_line.Line.{Line}
+use Rattle.vehicle_core.specs.declared.StepOut.{StepOut}
+use Rattle.vehicle_core.specs.declared.StepOut.TheVariants.{Made, Idle}
+use Rattle.vehicle_core.specs.WorkerLaw.{request_of}
+use Rattle.vehicle_core.specs.CoreState.{CoreState}
+use Rattle.vehicle_core.specs.CoreLaw.{CoreStep}
+use Rattle.flight_runner.specs.Store.{StoreState, reply_to, after}
+
+-- the worker's turn: a request that it has taken is served by the store, and the reply is posted
+abbrev pub WorkerTurn : Option Request → CoreState → StoreState → StepOut Line → CoreState → StoreState → Type 0
+WorkerTurn None s st out s' st' = CoreStep s Worker None out s' × (st' ≡ st)
+WorkerTurn (Some request) s st out s' st' = CoreStep s Worker (Some (reply_to st request)) out s' × (st' ≡ after st request)
+
+-- one actor's turn over the store
+abbrev pub Turn : CoreState → StoreState → Actor → StepOut Line → CoreState → StoreState → Type 0
+Turn s st Worker out s' st' = WorkerTurn (request_of s.taken) s st out s' st'
+Turn s st (Link number) out s' st' = CoreStep s (Link number) None out s' × (st' ≡ st)
+Turn s st Nav out s' st' = CoreStep s Nav None out s' × (st' ≡ st)
+Turn s st (Watch number) out s' st' = CoreStep s (Watch number) None out s' × (st' ≡ st)
+
+-- what a turn adds to the record: its line, or nothing where the actor was idle
+abbrev pub line_of : StepOut Line → List Line
+line_of (Made line) = line ∷ []
+line_of Idle = []
+
+-- each of these actors in their order takes one turn, and those that are not idle make these lines
+abbrev pub Acts : CoreState → StoreState → List Actor → List Line → CoreState → StoreState → Type 0
+Acts s st [] lines s' st' = (lines ≡ []) × (s' ≡ s) × (st' ≡ st)
+Acts s st (actor ∷ actors) lines s' st' = (out : StepOut Line) × (mid : CoreState) × (mid_st : StoreState) × (rest : List Line) × Turn s st actor out mid mid_st × Acts mid mid_st actors rest s' st' × (lines ≡ line_of out ++ rest)
+
+-- so many rounds of these actors, one after another, of which each makes a line
+abbrev pub Rounds : List Actor → ℕ → CoreState → StoreState → List Line → CoreState → StoreState → Type 0
+Rounds round zero s st lines s' st' = (lines ≡ []) × (s' ≡ s) × (st' ≡ st)
+Rounds round (suc n) s st lines s' st' = (first : List Line) × (mid : CoreState) × (mid_st : StoreState) × (rest : List Line) × Acts s st round first mid mid_st × (0 < length first) × Rounds round n mid mid_st rest s' st' × (lines ≡ first ++ rest)
+
+-- the links below a number, in their order
+abbrev pub links_below : ℕ → List Actor
+links_below zero = []
+links_below (suc n) = links_below n ++ Link n ∷ []
+
+-- a round: the worker, the links in their order, the Navigator
+abbrev pub round_of : ℕ → List Actor
+round_of links = Worker ∷ links_below links ++ Nav ∷ []

@@ -1,0 +1,13 @@
+//! The law of the runner: whatever turns the actors take over the store, the lines are a run of one vehicle.
+
+ghost use Rattle.flight_runner.specs.OneVehicle.{WholeIsRun, SoFarIsRun};
+
+use vehicle_core::parts_fit;
+
+/// A record of a boot, whole or stopped within it, is a run of one vehicle.
+pub fn one_vehicle()
+    ensures whole { WholeIsRun }
+    ensures so_far { SoFarIsRun }
+{
+    parts_fit();
+}

@@ -1,0 +1,114 @@
+//! The run of a boot: the actors take their turns over the store, and each turn that is not idle adds its line.
+//! A line's place in the record is taken before the turn, so that no line that was made is lost.
+
+ghost use Rattle.std.specs.Prelude.{◌≡◌, IfOk, OnOk, OnErr};
+ghost use Rattle.vehicle_core.specs.WorkerLaw.{request_of};
+ghost use Rattle.flight_runner.specs.Turn.{Turn, WorkerTurn};
+ghost use Rattle.flight_runner.specs.Flight.{IsEnding};
+ghost use Rattle.flight_runner.specs.RunState.{Acted, ActedAll, SoFar, WentRound, Flew};
+
+use crate::store::MapStore;
+use mission_model::{Actor, Line};
+use std::alloc::AllocError;
+use vehicle_core::{Core, StepOut};
+
+/// The actors of a boot, the plans that the worker serves from, and the record so far.
+#[derive(Drop)]
+pub struct Run {
+    pub core: Core,
+    pub store: MapStore,
+    pub lines: Vec<Line>,
+}
+
+impl Run {
+    /// The stated turns, then rounds until one makes no line, then the line that ends the boot. Without memory the
+    /// record ends with the last line that was made.
+    pub fn fly(&mut self, turns: &[Actor], round: &[Actor]) -> Result<(), AllocError>
+        ensures ok { OnOk result (Flew self.old.core self.old.store turns.now round.now self.old.lines.items self.new.lines.items) }
+        ensures err { OnErr result (SoFar self.old.core self.old.store self.old.lines.items self.new.core self.new.store self.new.lines.items) }
+    {
+        self.act_all(turns)?;
+        self.go_round(round)?;
+        let ending = self.ending();
+        self.lines.push(ending)?;
+        Ok(())
+    }
+
+    /// Rounds of these actors, until one makes no line.
+    fn go_round(&mut self, round: &[Actor]) -> Result<(), AllocError>
+        ensures ok { OnOk result (WentRound self.old.core self.old.store round.now self.old.lines.items self.new.core self.new.store self.new.lines.items) }
+        ensures err { OnErr result (SoFar self.old.core self.old.store self.old.lines.items self.new.core self.new.store self.new.lines.items) }
+    {
+        loop {
+            let before = self.lines.len();
+            self.act_all(round)?;
+            if self.lines.len() == before {
+                return Ok(());
+            }
+        }
+    }
+
+    /// One turn of each of these actors, in their order.
+    fn act_all(&mut self, actors: &[Actor]) -> Result<(), AllocError>
+        ensures ok { OnOk result (ActedAll self.old.core self.old.store actors.now self.old.lines.items self.new.core self.new.store self.new.lines.items) }
+        ensures err { OnErr result (SoFar self.old.core self.old.store self.old.lines.items self.new.core self.new.store self.new.lines.items) }
+    {
+        for actor in actors {
+            self.act(*actor)?;
+        }
+        Ok(())
+    }
+
+    /// One turn of an actor, for whose line there is a place. Without memory nothing changes.
+    fn act(&mut self, actor: Actor) -> Result<(), AllocError>
+        ensures ok { OnOk result (Acted self.old.core self.old.store actor self.old.lines.items self.new.core self.new.store self.new.lines.items) }
+        ensures core { OnErr result (self.new.core ≡ self.old.core) }
+        ensures store { OnErr result (self.new.store ≡ self.old.store) }
+        ensures lines { OnErr result (self.new.lines.items ≡ self.old.lines.items) }
+    {
+        self.lines.try_reserve(1)?;
+        match turn(&mut self.core, &mut self.store, actor)? {
+            StepOut::Idle => Ok(()),
+            StepOut::Made(line) => match self.lines.push(line) {
+                Ok(()) => Ok(()),
+                Err(_) => unreachable!(),
+            },
+        }
+    }
+
+    /// The line that ends the boot.
+    fn ending(&self) -> Line
+        ensures { IsEnding self.now.core result }
+    {
+        if self.core.is_finished() {
+            Line::End
+        } else {
+            Line::Stuck
+        }
+    }
+}
+
+/// One turn of an actor. Without memory nothing changes.
+fn turn(core: &mut Core, store: &mut MapStore, actor: Actor) -> Result<StepOut<Line>, AllocError>
+    ensures ok { IfOk result (λ out. Turn core.old store.old actor out core.new store.new) }
+    ensures core { OnErr result (core.new ≡ core.old) }
+    ensures store { OnErr result (store.new ≡ store.old) }
+{
+    match actor {
+        Actor::Worker => worker_turn(core, store),
+        other => Ok(core.step(other, None)),
+    }
+}
+
+/// The worker's turn: the request that it has taken is served by the store.
+fn worker_turn(core: &mut Core, store: &mut MapStore) -> Result<StepOut<Line>, AllocError>
+    ensures ok { IfOk result (λ out. WorkerTurn (request_of core.old.taken) core.old store.old out core.new store.new) }
+    ensures core { OnErr result (core.new ≡ core.old) }
+    ensures store { OnErr result (store.new ≡ store.old) }
+{
+    let Some(request) = core.taken() else {
+        return Ok(core.step(Actor::Worker, None));
+    };
+    let reply = store.serve(request)?;
+    Ok(core.step(Actor::Worker, Some(reply)))
+}
