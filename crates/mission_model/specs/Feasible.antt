@@ -1,7 +1,7 @@
--- Whether a mission can be flown: ten rules in their order, the first of them that is broken, and the first place that
+-- Whether a mission is feasible: ten rules in their order, the first of them that is broken, and the first place that
 -- breaks it. A rule is told by what breaks it: an item, with the items before it and after it in the mission. Two rules
 -- ask something of the mission as a whole, and are broken at place 0.
-use Rattle.std.specs.Prelude.{◌≡◌, ℕ, ◌+◌, ◌==◌, ℤ, pos, ◌-ℤ◌, Bool, true, false, not, ◌&&◌, ◌||◌, List, [], ◌∷◌, ◌++◌, Option, Some, None, is_some, length, slice_get, int_lt, if◌then◌else◌}
+use Rattle.std.specs.Prelude.{◌≡◌, ℕ, ◌+◌, ◌==◌, ℤ, pos, ◌-ℤ◌, Bool, false, not, ◌&&◌, ◌||◌, List, [], ◌∷◌, ◌++◌, Option, Some, None, is_some, length, slice_get, int_lt, if◌then◌else◌}
 use Rattle.std.specs.List.{list_any}
 use Rattle.std.specs.Ordering.{int_eq}
 use Rattle.mission_model.specs.declared.plan.Home.{Home}

@@ -1,9 +1,10 @@
 //! The commands of plan items in one table, after MAV_CMD and MAV_FRAME of the MAVLink common messages: which plan a
-//! command belongs to, whether it has a position, and what its first two parameters may be. What a jump and a polygon
-//! vertex say in their parameters is read here, too.
+//! command belongs to, whether it has a position, and what its first two parameters may be. Which commands are legs stands
+//! beside it. What a jump and a polygon vertex say in their parameters is read here, too.
 
 ghost use Rattle.std.specs.Prelude.{◌≡◌};
 ghost use Rattle.mission_model.specs.Command.{rule_of, rule_among, is_positioned, is_positioned_by, has_position, means_present_place, whole_number, jump_of, vertex_count, is_not_negative};
+ghost use Rattle.mission_model.specs.Legs.{is_leg};
 
 use crate::plan::{Item, Param, PlanType};
 
@@ -180,6 +181,17 @@ pub const COMMANDS: [CommandRule; 14] = [
     },
 ];
 
+/// The commands of legs.
+const LEG_COMMANDS: [u16; 7] = [
+    NAV_WAYPOINT,
+    NAV_LOITER_UNLIM,
+    NAV_LOITER_TURNS,
+    NAV_LOITER_TIME,
+    NAV_LAND,
+    NAV_TAKEOFF,
+    NAV_DELAY,
+];
+
 /// A DO_JUMP's target, the seq that it leads to, and how often it is taken.
 #[derive(Clone, Copy)]
 pub struct Jump {
@@ -232,6 +244,13 @@ fn means_present_place(item: &Item) -> bool
     ensures { result ≡ means_present_place item.now }
 {
     (item.command == NAV_TAKEOFF || item.command == NAV_LAND) && item.x == 0 && item.y == 0
+}
+
+/// Whether a command is a leg, which is flown or waited at until it is reached.
+pub fn is_leg(command: u16) -> bool
+    ensures { result ≡ is_leg command }
+{
+    LEG_COMMANDS.contains(&command)
 }
 
 /// The whole number that a parameter is, in ones: none for one that is not given, negative or broken.

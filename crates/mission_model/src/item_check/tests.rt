@@ -2,7 +2,7 @@
 //! here as that protocol's numbers.
 
 use super::*;
-use crate::command::has_position;
+use crate::command::{has_position, is_leg};
 use crate::plan::Param::{self, Milli, Unset};
 use crate::plan::PlanType::{Fence, Mission, Safe};
 
@@ -120,11 +120,19 @@ static PARAMETERS: [(PlanType, u16, Param, Param, u8); 66] = [
     (Mission, 65_535, NIL, NIL, 3),
 ];
 
+/// The commands that are legs.
+static LEGS: [u16; 7] = [16, 17, 18, 19, 21, 22, 93];
+
 #[test]
 fn each_command_in_its_plan_with_its_parameters(rt: HostRuntime) {
     for &(kind, command, p1, p2, want) in &PARAMETERS {
         let item = item(3, command, p1, p2);
         assert_eq!(rt; code(check_item(kind, &item)), want, "command {command}");
+        assert_eq!(rt;
+            is_leg(command),
+            LEGS.contains(&command),
+            "command {command}"
+        );
     }
 }
 
