@@ -3,31 +3,16 @@
 ghost use Rattle.std.specs.Prelude.{◌≡◌, ◌<◌, ◌≤◌, ◌↔◌, ◌⊎◌, ◌+◌, true, IsTrue, List, length};
 ghost use Rattle.mission_model.specs.declared.plan.Item.{Item as ItemValue};
 ghost use Rattle.mission_model.specs.CountsList.{pairs_of};
-ghost use Rattle.mission_model.specs.Legs.{is_leg};
 ghost use Rattle.mission_model.specs.Pairs.{has_pair};
 ghost use Rattle.leg_machine.specs.MachineState.{made, set_to, after_reached};
 ghost use Rattle.leg_machine.specs.Stepping.{ShowsItem, HasRoom, ShowsOf, Steps, at_leg_after};
 ghost use Rattle.leg_machine.specs.AtItem.{LeadsWithin, StepsAt, Jumps};
 
 use jump_counts::{JumpAnswer, take_jump};
-use mission_model::command::{
-    Jump, NAV_DELAY, NAV_LAND, NAV_LOITER_TIME, NAV_LOITER_TURNS, NAV_LOITER_UNLIM, NAV_TAKEOFF,
-    NAV_WAYPOINT, jump_of,
-};
+use mission_model::command::{Jump, NAV_LOITER_UNLIM, is_leg, jump_of};
 use mission_model::limits::MAX_JUMPS;
 use mission_model::{Counts, Item, Look};
 use std::marker::Model;
-
-/// The commands of legs, which are flown or waited at until they are reached.
-const LEG_COMMANDS: [u16; 7] = [
-    NAV_WAYPOINT,
-    NAV_LOITER_UNLIM,
-    NAV_LOITER_TURNS,
-    NAV_LOITER_TIME,
-    NAV_LAND,
-    NAV_TAKEOFF,
-    NAV_DELAY,
-];
 
 /// What a step did, by the seq of the item that it was shown.
 #[derive(Clone, Copy, Debug, PartialEq, Eq)]
@@ -198,13 +183,6 @@ impl LegMachine {
         self.index = index;
         self.at_leg = false;
     }
-}
-
-/// Whether a command is a leg.
-fn is_leg(command: u16) -> bool
-    ensures { result ≡ is_leg command }
-{
-    LEG_COMMANDS.contains(&command)
 }
 
 #[cfg(test)]

@@ -4,7 +4,9 @@ ghost use Rattle.mission_model.specs.declared.plan.PlanType.TheVariants.{Mission
 ghost use Rattle.mission_model.specs.PlanCode.{PlanValid};
 
 use super::*;
-use mission_model::command::{DO_CHANGE_SPEED, DO_JUMP, DO_LAND_START, NAV_RETURN_TO_LAUNCH};
+use mission_model::command::{
+    DO_CHANGE_SPEED, DO_JUMP, DO_LAND_START, NAV_DELAY, NAV_RETURN_TO_LAUNCH, NAV_WAYPOINT,
+};
 use mission_model::{Param, PlanType, check_plan};
 use std::test::*;
 
