@@ -2,19 +2,9 @@
 use Rattle.std.specs.Prelude.{◌≡◌, ℕ, zero, suc, ◌+◌, ◌-◌, ◌*◌, ◌≤◌, true, ◌&&◌, List, [], ◌∷◌, ◌++◌, length, drop, replicate, Option, Some, None, nat_le, if◌then◌else◌}
 use Rattle.std.specs.List.{flat_map}
 use Rattle.mission_model.specs.declared.counts.Mark.{Mark}
-use Rattle.mission_model.specs.CountsList.{pairs_of}
+pub use Rattle.mission_model.specs.PlainMark.{PlainMark, plain_mark}
 use Rattle.mission_model.specs.Pairs.{rises_from}
 use Rattle.dataman_layout.specs.Fields.{number_bytes, number_at, is_zeros}
-
--- a mark with its counts as a list
-pub record PlainMark : Type 0 where
-  pub id : ℕ
-  pub index : ℕ
-  pub pairs : List (ℕ × ℕ)
-
--- what a mark is seen as
-abbrev pub plain_mark : Mark → PlainMark
-plain_mark mark = record { id = mark.id; index = mark.index; pairs = pairs_of mark.counts }
 
 -- such a mark, if there is one
 abbrev pub plain_marks : Option Mark → Option PlainMark

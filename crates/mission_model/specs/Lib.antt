@@ -1,5 +1,6 @@
 pub mod Pairs
 pub mod CountsList
+pub mod PlainMark
 pub mod Command
 pub mod ItemCode
 pub mod PlanCode

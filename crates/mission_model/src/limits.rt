@@ -39,3 +39,6 @@ pub const WATCH_ROOM: u8 = 4;
 
 /// Bytes of the store.
 pub const STORE_BYTES: u64 = 57_728;
+
+/// The last generation of a cell of the store.
+pub const LAST_GENERATION: u64 = u64::MAX;
