@@ -1,9 +1,8 @@
 -- What each line of a record says of the vehicle: where it holds, and what it does. Forms of lines that no run makes yet
 -- never come; the work that brings such a form writes its row.
-use Rattle.std.specs.Prelude.{◌≡◌, ◌≢◌, ℕ, ◌+◌, ◌<◌, ◌≤◌, ◌==◌, ◌&&◌, not, Bool, true, false, List, [], ◌∷◌, length, Option, Some, None, option_map}
-use Rattle.std.specs.List.{list_any}
+use Rattle.std.specs.Prelude.{◌≡◌, ◌≢◌, ℕ, ◌+◌, ◌<◌, ◌≤◌, ◌==◌, ◌&&◌, not, Bool, true, false, List, length, Option, Some, None, option_map}
 use Rattle.mission_model.specs.declared.counts.Mark.{Mark}
-use Rattle.mission_model.specs.declared.command.TheConstants.{NAV_WAYPOINT, NAV_LOITER_UNLIM, NAV_LOITER_TURNS, NAV_LOITER_TIME, NAV_LAND, NAV_TAKEOFF, NAV_DELAY}
+use Rattle.mission_model.specs.declared.command.TheConstants.{NAV_LOITER_UNLIM}
 use Rattle.mission_model.specs.declared.plan.PlanType.{PlanType}
 use Rattle.mission_model.specs.declared.plan.PlanHead.{PlanHead}
 use Rattle.mission_model.specs.declared.plan.Item.{Item}
@@ -23,6 +22,7 @@ use Rattle.mission_model.specs.declared.vehicle.NavWhat.{NavWhat}
 use Rattle.mission_model.specs.declared.vehicle.NavWhat.TheVariants as what
 use Rattle.mission_model.specs.declared.flight_line.Line.{Line}
 use Rattle.mission_model.specs.declared.flight_line.Line.TheVariants as line
+use Rattle.mission_model.specs.Legs.{is_leg}
 use Rattle.mission_model.specs.PlanCode.{PlanValid}
 use Rattle.plan_vehicle.specs.PlanState.{told, told_at, CanBe, draft_of, with_written}
 use Rattle.plan_vehicle.specs.VehicleState.{VehicleState, plan_of, with_item_told, mission_count, head_at, booted, committed, last_served, reply_of, ended, index_taken, in_mission_mode}
@@ -99,14 +99,6 @@ pub record Hears (v : VehicleState) (link : ℕ) (given : Reply) (said : Answer)
   pub served : option_map reply_of (last_served v.served link) ≡ Some (asked, given)
   pub answer : MayAnswer asked given said
   pub after : v' ≡ v
-
--- the commands that are flown as a leg until they are reached
-abbrev pub leg_commands : List ℕ
-leg_commands = NAV_WAYPOINT ∷ NAV_LOITER_UNLIM ∷ NAV_LOITER_TURNS ∷ NAV_LOITER_TIME ∷ NAV_LAND ∷ NAV_TAKEOFF ∷ NAV_DELAY ∷ []
-
--- the command is one of them
-abbrev pub is_leg : ℕ → Bool
-is_leg command = list_any (λ leg. leg == command) leg_commands
 
 -- the leg of the item at the index, of the plans in force
 pub record Flies (v : VehicleState) (seq mission fence : ℕ) (item : Item) (v' : VehicleState) : Type 0 where

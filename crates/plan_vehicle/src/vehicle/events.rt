@@ -2,13 +2,10 @@
 
 ghost use Rattle.std.specs.Prelude.{◌≡◌, IsTrue, true, false, ◌↔◌};
 ghost use Rattle.plan_vehicle.specs.VehicleState.{VehicleState, index_taken, in_mission_mode};
-ghost use Rattle.plan_vehicle.specs.VehicleStep.{is_leg, Flies, IsOver, LooksOn, Looks, can_go_on, Reaches, Switches, Acts};
+ghost use Rattle.plan_vehicle.specs.VehicleStep.{Flies, IsOver, LooksOn, Looks, can_go_on, Reaches, Switches, Acts};
 
 use crate::vehicle::Vehicle;
-use mission_model::command::{
-    NAV_DELAY, NAV_LAND, NAV_LOITER_TIME, NAV_LOITER_TURNS, NAV_LOITER_UNLIM, NAV_TAKEOFF,
-    NAV_WAYPOINT,
-};
+use mission_model::command::{NAV_LOITER_UNLIM, is_leg};
 use mission_model::{Counts, Item, Mode, NavWhat, VehicleLine, is_same_item};
 
 impl Vehicle {
@@ -155,20 +152,4 @@ impl Vehicle {
             self.at_leg = false;
         }
     }
-}
-
-/// Whether a command is flown as a leg until it is reached.
-fn is_leg(command: u16) -> bool
-    ensures { result ≡ is_leg command }
-{
-    matches!(
-        command,
-        NAV_WAYPOINT
-            | NAV_LOITER_UNLIM
-            | NAV_LOITER_TURNS
-            | NAV_LOITER_TIME
-            | NAV_LAND
-            | NAV_TAKEOFF
-            | NAV_DELAY
-    )
 }
