@@ -17,6 +17,7 @@ use Rattle.mission_model.specs.declared.vehicle.NavWhat.TheVariants as what
 use Rattle.mission_model.specs.declared.vehicle.NavEntry.{NavEntry}
 use Rattle.mission_model.specs.declared.flight_line.Line.{Line}
 use Rattle.mission_model.specs.declared.flight_line.Line.TheVariants as line
+use Rattle.mission_model.specs.Legs.{is_leg}
 use Rattle.client_cache.specs.CacheState.{known_at}
 use Rattle.client_cache.specs.Wants.{wanted, asking, flying}
 use Rattle.plan_vehicle.specs.PlanState.{PlanState, told_at}
@@ -76,8 +77,8 @@ known_from known from seq zero =
     let place : seq - from ≡ seq = omega (arith, zero) in
     rw (le, place) refl
 
-waypoint_is_leg : (command : ℕ) → command ≡ NAV_WAYPOINT → vehicle.is_leg command ≡ true
-waypoint_is_leg command is = subst (λ x. vehicle.is_leg x ≡ true) (sym is) refl
+waypoint_is_leg : (command : ℕ) → command ≡ NAV_WAYPOINT → is_leg command ≡ true
+waypoint_is_leg command is = subst (λ x. is_leg x ≡ true) (sym is) refl
 
 -- what an item that the cache knows shows: it is the mission's, and a waypoint
 known_told : (v : VehicleState) (st : store.StoreState) (c : CoreState) (n : NavState) (item : Item) → Tied v st c → InForce v.mission v.mode v.index v.at_leg n → known_at n.cache n.index ≡ Some item → (told_at v.mission v.index ≡ Some item) × (item.command ≡ NAV_WAYPOINT)
