@@ -6,5 +6,7 @@ pub mod State
 pub mod StateLaws
 pub mod Mark
 pub mod MarkLaws
+pub mod Compat
+pub mod CompatLaws
 pub mod Places
 pub mod PlaceLaws

@@ -4,7 +4,8 @@ use crate::places::{
     SAFE_BANKS_AT, SMALL_SLOT_BYTES, bank_at, record_at, state_at,
 };
 use crate::{
-    Record, decode_item, decode_mark, decode_state, encode_item, encode_mark, encode_state,
+    LAYOUT_VERSION, Record, decode_compat, decode_item, decode_mark, decode_state, encode_compat,
+    encode_item, encode_mark, encode_state, is_this_layout, version_in,
 };
 use mission_model::Param::{Milli, Unset};
 use mission_model::PlanType::{Fence, Mission, Safe};
@@ -252,6 +253,18 @@ fn other_bytes_are_no_mark(rt: HostRuntime) {
         }
         assert_eq!(rt; decode_mark(&bytes), None, "{row:?}");
     }
+}
+
+#[test]
+fn a_version_has_zeros_behind_it(rt: HostRuntime) {
+    let bytes = encode_compat(LAYOUT_VERSION);
+    assert_eq!(rt; bytes, [1, 0, 0, 0, 0, 0, 0]);
+    assert_eq!(rt; decode_compat(&bytes), Some(1));
+    let other = [4, 3, 2, 1, 0, 0, 1];
+    assert_eq!(rt; decode_compat(&other), None);
+    assert_eq!(rt; version_in(&other), 0x0102_0304);
+    assert_eq!(rt; is_this_layout(version_in(&other)), false);
+    assert_eq!(rt; is_this_layout(1), true);
 }
 
 #[test]
