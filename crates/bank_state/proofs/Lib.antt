@@ -1,0 +1,10 @@
+mod Swapping
+mod Writing
+mod Gathering
+mod Reading
+mod PlanChange
+mod MarkChange
+mod Settling
+mod Refusing
+mod Committing
+mod Marking

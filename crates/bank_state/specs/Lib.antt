@@ -1,0 +1,14 @@
+pub mod Plans
+pub mod StandsFor
+pub mod OnePair
+pub mod Ledger
+pub mod Store
+pub mod Gathered
+pub mod Swap
+pub mod Outcomes
+pub mod Counting
+pub mod Running
+pub mod Frames
+pub mod Standing
+pub mod Moments
+pub mod Drafts
