@@ -1,0 +1,8 @@
+mod Steps
+mod Lists
+mod Items
+mod Faultless
+mod Gathered
+mod Exactly
+mod Up
+mod Emptied

@@ -1,0 +1,5 @@
+pub mod Faults
+pub mod Standing
+pub mod Empty
+pub mod Steps
+pub mod Found

@@ -1,0 +1,229 @@
+// The cells of a store, opened in the order of a boot.
+ghost use Rattle.std.specs.Prelude.{◌≡◌, ◌+◌, ◌*◌, ◌≤◌, ◌-◌, false, get_or, length, IsTrue, IfOk, IfErr};
+ghost use Rattle.mission_model.specs.declared.limits.TheConstants.{STORE_BYTES};
+ghost use Rattle.mission_model.specs.PlainMark.{plain_mark};
+ghost use Rattle.disk_model.specs.Disk.{Only};
+ghost use Rattle.gated_cell.specs.Cell.{held};
+ghost use Rattle.dataman_layout.specs.Mark.{mark_in, plain_marks};
+ghost use Rattle.plan_store.specs.StoreState.{StoredPlan};
+ghost use Rattle.bank_state.specs.Plans.{head_of};
+ghost use Rattle.bank_state.specs.StandsFor.{compat_place, state_place, mark_place};
+ghost use Rattle.recovery.specs.declared.fault.BootFault.TheVariants.{BadCell};
+ghost use Rattle.recovery.specs.Faults.{twins_fault, version_fault, compat_fault, state_number, state_fault, states_fault, mark_number, fits, unfit, mark_fault};
+ghost use Rattle.recovery.specs.Standing.{kept_of, mark_at};
+ghost use Rattle.recovery.specs.Steps.{Step, IsOfDisk, Answers, judged, fault_of};
+ghost use Rattle.recovery.specs.Found.{IsFound, IsOpened, AreBanks, BanksIn, AreStates, StatesIn, HasJumps};
+
+use crate::BootFault;
+use crate::jumps::Jumps;
+use bank_state::PlanBanks;
+use dataman_layout::places::{COMPAT_AT, MARK_AT, MARK_SLOT_BYTES, SMALL_SLOT_BYTES, state_at};
+use dataman_layout::{LAYOUT_VERSION, decode_compat, decode_mark, decode_state, version_in};
+use disk_model::Disk;
+use gated_cell::{CellFault, CellPlace, GatedCell};
+use mission_model::{Mark, PlanHead, PlanType};
+
+/// The number of the compat cell, before those of the states.
+pub const COMPAT_CELL: u8 = 0;
+
+/// The number of the mark cell, behind those of the states.
+pub const MARK_CELL: u8 = 4;
+
+/// The number of the state cell of a plan's type.
+fn state_number(kind: PlanType) -> u8
+    ensures { result ≡ state_number kind }
+{
+    match kind {
+        PlanType::Mission => 1,
+        PlanType::Fence => 2,
+        PlanType::Safe => 3,
+    }
+}
+
+/// The fault of opening the cell of this number.
+fn fault_of(number: u8, fault: CellFault) -> BootFault
+    ensures { result ≡ fault_of number fault }
+{
+    match fault {
+        CellFault::Failed => BootFault::DiskFailed,
+        CellFault::Cut => BootFault::PowerOff,
+        CellFault::Twins(_) | CellFault::Spent(_) => BootFault::BadCell(number),
+    }
+}
+
+/// Opens the cell of this number by two reads, and puts what is in force into `payload`, if anything is.
+fn open_cell<D: Disk>(
+    disk: &mut D,
+    number: u8,
+    place: CellPlace,
+    payload: &mut [u8],
+) -> Result<GatedCell, BootFault>
+    requires room { place.at + 2 * place.slot_bytes ≤ (D.state disk.old).meter.size }
+    requires slot { 9 ≤ place.slot_bytes }
+    requires length { length payload.old ≡ place.slot_bytes - 9 }
+    requires only { Only (D.state disk.old).seen (D.state disk.old).images }
+
+    ensures place { IfOk result (λ cell. cell.place ≡ place) }
+    ensures calm { IfOk result (λ cell. cell.doubt ≡ false) }
+    ensures step { Step 2 (D.state disk.old) (D.state disk.new) result }
+    ensures answers { IsTrue (D.state disk.old).tells → Answers (twins_fault number (held place (D.state disk.old).seen)) (λ cell. IsFound cell place payload.new (D.state disk.old).seen) result }
+{
+    match GatedCell::open(disk, place, payload) {
+        Ok(cell) => Ok(cell),
+        Err(fault) => Err(fault_of(number, fault)),
+    }
+}
+
+/// Reads the first byte of the store.
+pub fn first_byte<D: Disk>(disk: &mut D) -> Result<u8, BootFault>
+    ensures step { Step 1 (D.state disk.old) (D.state disk.new) result }
+    ensures of_disk { IfErr result IsOfDisk }
+    ensures byte { IfOk result (λ byte. IsTrue (D.state disk.old).tells → byte ≡ get_or (D.state disk.old).seen 0 0) }
+{
+    let mut first = [0];
+    disk.read_at(COMPAT_AT, &mut first)?;
+    Ok(first[0])
+}
+
+/// Whether these bytes are this layout's version.
+fn judge_version(payload: &[u8; 7]) -> Result<(), BootFault>
+    ensures { result ≡ judged (version_fault payload.now) }
+{
+    let version = version_in(payload);
+    if version != LAYOUT_VERSION {
+        return Err(BootFault::UnknownVersion(version));
+    }
+    match decode_compat(payload) {
+        Some(_) => Ok(()),
+        None => Err(BootFault::BadCell(COMPAT_CELL)),
+    }
+}
+
+/// Opens the compat cell. Where none of its gates is open the first byte is read once more, to tell it.
+pub fn open_compat<D: Disk>(disk: &mut D) -> Result<(), BootFault>
+    requires room { STORE_BYTES ≤ (D.state disk.old).meter.size }
+    requires only { Only (D.state disk.old).seen (D.state disk.old).images }
+    ensures step { Step 2 (D.state disk.old) (D.state disk.new) result }
+    ensures answers { IsTrue (D.state disk.old).tells → Answers (compat_fault (get_or (D.state disk.old).seen 0 0) (held compat_place (D.state disk.old).seen)) (λ _. Unit {0}) result }
+{
+    let mut payload = [0; 7];
+    let place = CellPlace {
+        at: COMPAT_AT,
+        slot_bytes: SMALL_SLOT_BYTES,
+    };
+    let cell = open_cell(disk, COMPAT_CELL, place, &mut payload)?;
+    if !cell.has_payload() {
+        let byte = first_byte(disk)?;
+        return Err(BootFault::NotAStore(byte));
+    }
+    judge_version(&payload)
+}
+
+/// Opens the state cell of a plan's type, which names the bank in force and the plan in it.
+fn open_state<D: Disk>(disk: &mut D, kind: PlanType) -> Result<PlanBanks, BootFault>
+    requires room { STORE_BYTES ≤ (D.state disk.old).meter.size }
+    requires only { Only (D.state disk.old).seen (D.state disk.old).images }
+    ensures step { Step 2 (D.state disk.old) (D.state disk.new) result }
+    ensures banks { IfOk result (λ banks. AreBanks kind banks) }
+    ensures answers { IsTrue (D.state disk.old).tells → Answers (state_fault kind (held (state_place kind) (D.state disk.old).seen)) (λ banks. BanksIn kind banks (D.state disk.old).seen) result }
+{
+    let mut payload = [0; 7];
+    let number = state_number(kind);
+    let place = CellPlace {
+        at: state_at(kind),
+        slot_bytes: SMALL_SLOT_BYTES,
+    };
+    let cell = open_cell(disk, number, place, &mut payload)?;
+    if !cell.has_payload() {
+        return Err(BootFault::BadCell(number));
+    }
+    match decode_state(kind, &payload) {
+        Some((bank, head)) => Ok(PlanBanks { cell, bank, head }),
+        None => Err(BootFault::BadCell(number)),
+    }
+}
+
+/// What the three state cells name.
+#[derive(Clone, Copy)]
+pub struct States {
+    pub mission: PlanBanks,
+    pub fence: PlanBanks,
+    pub safe: PlanBanks,
+}
+
+/// Opens the state cells in order of their types.
+pub fn open_states<D: Disk>(disk: &mut D) -> Result<States, BootFault>
+    requires room { STORE_BYTES ≤ (D.state disk.old).meter.size }
+    requires only { Only (D.state disk.old).seen (D.state disk.old).images }
+    ensures step { Step 6 (D.state disk.old) (D.state disk.new) result }
+    ensures states { IfOk result AreStates }
+    ensures answers { IsTrue (D.state disk.old).tells → Answers (states_fault (D.state disk.old).seen) (λ states. StatesIn states (D.state disk.old).seen) result }
+{
+    let mission = open_state(disk, PlanType::Mission)?;
+    let fence = open_state(disk, PlanType::Fence)?;
+    let safe = open_state(disk, PlanType::Safe)?;
+    Ok(States {
+        mission,
+        fence,
+        safe,
+    })
+}
+
+/// Whether a mark is one of this mission, whose jumps these are.
+fn fits(mark: &Mark, mission: PlanHead, jumps: &Jumps) -> bool
+    ensures { (plan : StoredPlan) → head_of plan ≡ mission → HasJumps plan.items jumps.now → result ≡ fits (plain_mark mark.now) plan }
+{
+    mark.id == mission.id && mark.index <= mission.count && jumps.allow(&mark.counts)
+}
+
+/// The mark that these bytes are, if it is of this mission. One of a mission before is as good as none.
+fn judge_mark(
+    payload: &[u8; 71],
+    mission: PlanHead,
+    jumps: &Jumps,
+) -> Result<Option<Mark>, BootFault>
+    ensures fault { IfErr result (λ fault. fault ≡ BadCell mark_number) }
+    ensures answers { (plan : StoredPlan) → head_of plan ≡ mission → HasJumps plan.items jumps.now →
+        Answers (unfit plan (mark_in payload.now)) (λ mark. plain_marks mark ≡ kept_of mission.id (mark_in payload.now)) result }
+{
+    match decode_mark(payload) {
+        Some(mark) => {
+            if mark.id < mission.id {
+                Ok(None)
+            } else if fits(&mark, mission, jumps) {
+                Ok(Some(mark))
+            } else {
+                Err(BootFault::BadCell(MARK_CELL))
+            }
+        }
+        None => Err(BootFault::BadCell(MARK_CELL)),
+    }
+}
+
+/// Opens the mark cell, and gives the stored mark of this mission, if one is stored. The jumps are the mission's.
+pub fn open_mark<D: Disk>(
+    disk: &mut D,
+    mission: PlanHead,
+    jumps: &Jumps,
+) -> Result<(GatedCell, Option<Mark>), BootFault>
+    requires room { STORE_BYTES ≤ (D.state disk.old).meter.size }
+    requires only { Only (D.state disk.old).seen (D.state disk.old).images }
+    ensures step { Step 2 (D.state disk.old) (D.state disk.new) result }
+    ensures place { IfOk result (λ found. found.0.place ≡ mark_place) }
+    ensures calm { IfOk result (λ found. found.0.doubt ≡ false) }
+    ensures answers { IsTrue (D.state disk.old).tells → (plan : StoredPlan) → head_of plan ≡ mission → HasJumps plan.items jumps.now →
+        Answers (mark_fault plan (held mark_place (D.state disk.old).seen))
+        (λ found. IsOpened found.0 (D.state disk.old).seen × (plain_marks found.1 ≡ mark_at mission.id (held mark_place (D.state disk.old).seen))) result }
+{
+    let mut payload = [0; 71];
+    let place = CellPlace {
+        at: MARK_AT,
+        slot_bytes: MARK_SLOT_BYTES,
+    };
+    let cell = open_cell(disk, MARK_CELL, place, &mut payload)?;
+    if !cell.has_payload() {
+        return Ok((cell, None));
+    }
+    let mark = judge_mark(&payload, mission, jumps)?;
+    Ok((cell, mark))
+}

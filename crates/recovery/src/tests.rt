@@ -1,0 +1,268 @@
+// What no clause says: the first row of a store that is made, booted and not made again, its bytes written out, one store for
+// each fault, and at which calls of the disk a new store and a boot stop.
+ghost use Rattle.std.specs.Prelude.{◌≡◌, ◌≤◌};
+ghost use Rattle.mission_model.specs.declared.limits.TheConstants.{STORE_BYTES};
+
+use crate::BootFault::{BadCell, BadItem, DiskFailed, NotAStore, PowerOff, UnknownVersion};
+use crate::{BootFault, boot, init_store};
+use disk_model::{CutAt, Disk, DiskFault, MemoryDisk, RecordDisk, Tear};
+use mission_model::PlanType::Mission;
+use mission_model::limits::STORE_BYTES;
+use mission_model::{BootState, Counts, Mark, PlanHead};
+use std::alloc::{AllocError, Global};
+use std::test::Fail;
+
+/// What a boot tells of a mission of this id and count, and a mark on it at this index.
+fn told_of(id: u32, count: u16, index: u16) -> BootState {
+    let none = PlanHead { id: 0, count: 0 };
+    BootState {
+        heads: [PlanHead { id, count }, none, none],
+        mark: Mark {
+            id,
+            index,
+            counts: Counts::new(),
+        },
+    }
+}
+
+/// Makes a store, boots it, and tries to make one again.
+fn make_and_boot<D: Disk>(
+    disk: D,
+) -> (
+    Result<(), BootFault>,
+    Result<BootState, BootFault>,
+    Result<(), BootFault>,
+)
+    requires room { STORE_BYTES ≤ (D.state disk).meter.size }
+{
+    let mut disk = disk;
+    let made = init_store(&mut disk);
+    match boot(disk) {
+        Ok((banks, state)) => {
+            let mut disk = banks.into_disk();
+            (made, Ok(state), init_store(&mut disk))
+        }
+        Err((fault, disk)) => {
+            let mut disk = disk;
+            (made, Err(fault), init_store(&mut disk))
+        }
+    }
+}
+
+#[test]
+fn a_store_is_made_once_and_boots_empty(rt: HostRuntime) -> Result<(), Fail> {
+    let alloc = rt.alloc();
+    let wanted = (Ok(()), Ok(told_of(0, 0, 0)), Err(NotAStore(0xA5)));
+    let memory = MemoryDisk::new(alloc, STORE_BYTES, Vec::new(alloc))?;
+    assert_eq!(rt; make_and_boot(memory), wanted);
+    let record = RecordDisk::new(alloc, STORE_BYTES, 100)?;
+    assert_eq!(rt; make_and_boot(record), wanted);
+    let zeros = MemoryDisk::new(alloc, STORE_BYTES, Vec::new(alloc))?;
+    assert_eq!(rt; boot(zeros).err().map(|down| down.0), Some(NotAStore(0)));
+    let recorded = RecordDisk::new(alloc, STORE_BYTES, 100)?;
+    assert_eq!(rt; boot(recorded).err().map(|down| down.0), Some(NotAStore(0)));
+    Ok(())
+}
+
+/// The slots of a new store that are open: one of the version, and three of an empty plan.
+const OPEN_SLOTS: [(usize, [u8; 16]); 4] = [
+    (0, [0xA5, 1, 0, 0, 0, 0, 0, 0, 0, 1, 0, 0, 0, 0, 0, 0]),
+    (32, [0xA5, 1, 0, 0, 0, 0, 0, 0, 0, 0, 0, 0, 0, 0, 0, 0]),
+    (64, [0xA5, 1, 0, 0, 0, 0, 0, 0, 0, 0, 0, 0, 0, 0, 0, 0]),
+    (96, [0xA5, 1, 0, 0, 0, 0, 0, 0, 0, 0, 0, 0, 0, 0, 0, 0]),
+];
+
+#[test]
+fn a_new_store_has_its_bytes(rt: HostRuntime) -> Result<(), Fail> {
+    let alloc = rt.alloc();
+    let mut wanted = [0; 300];
+    for (at, slot) in OPEN_SLOTS {
+        for k in 0..16 {
+            if at + k < 300 {
+                wanted[at + k] = slot[k];
+            }
+        }
+    }
+    let mut disk = MemoryDisk::new(alloc, STORE_BYTES, Vec::new(alloc))?;
+    let mut bytes = [1; 300];
+    assert_eq!(rt; init_store(&mut disk), Ok(()));
+    assert_eq!(rt; disk.read_at(0, &mut bytes), Ok(()));
+    assert_eq!(rt; bytes, wanted);
+    Ok(())
+}
+
+/// A mission of id 1 with one waypoint in bank 1, its slot the newer of two.
+const COMMITTED: [u8; 16] = [0xA5, 2, 0, 0, 0, 0, 0, 0, 0, 1, 1, 0, 0, 0, 1, 0];
+
+/// Its item.
+const RECORD: [u8; 48] = [
+    1, 0, 0, 0, 0, 0, 0, 0x1F, 3, 0, 16, 0, 0, 0, 0, 0, 0, 0, 0, 0, 0, 0, 0, 0, 0, 0, 0, 0, 0,
+    0x01, 0x3D, 0x1C, 0x60, 0xA0, 0x18, 0x05, 0x10, 0x27, 0, 0, 0, 0, 0, 0, 0, 0, 0, 0,
+];
+
+/// A mark at its end, without counts.
+const MARK: [u8; 16] = [0xA5, 1, 0, 0, 0, 0, 0, 0, 0, 1, 0, 0, 0, 1, 0, 0];
+
+/// A closed slot of the first generation.
+const CLOSED: [u8; 2] = [0, 1];
+
+/// A store with that mission and mark, whose other slots are closed and have the first generation.
+fn write_store<D: Disk>(disk: &mut D) -> Result<(), BootFault>
+    requires room { STORE_BYTES ≤ (D.state disk.old).meter.size }
+    ensures size { (D.state disk.new).meter.size ≡ (D.state disk.old).meter.size }
+    ensures can_cut { (D.state disk.new).meter.can_cut ≡ (D.state disk.old).meter.can_cut }
+{
+    init_store(disk)?;
+    disk.write_at(16, &CLOSED)?;
+    disk.write_at(48, &COMMITTED)?;
+    disk.write_at(80, &CLOSED)?;
+    disk.write_at(112, &CLOSED)?;
+    disk.write_at(128, &MARK)?;
+    disk.write_at(208, &CLOSED)?;
+    disk.write_at(24_512, &RECORD)?;
+    Ok(())
+}
+
+/// Changes a byte of a store.
+fn change<D: Disk>(disk: &mut D, changed: (u64, u8))
+    requires room { STORE_BYTES ≤ (D.state disk.old).meter.size }
+    ensures size { (D.state disk.new).meter.size ≡ (D.state disk.old).meter.size }
+{
+    let (at, byte) = changed;
+    if at < STORE_BYTES {
+        let _written = disk.write_at(at, &[byte]);
+    }
+}
+
+/// What a boot finds in that store with these two bytes changed.
+fn found_with(
+    alloc: Global,
+    first: (u64, u8),
+    second: (u64, u8),
+) -> Result<Result<BootState, BootFault>, AllocError> {
+    let mut disk = MemoryDisk::new(alloc, STORE_BYTES, Vec::new(alloc))?;
+    let _written = write_store(&mut disk);
+    change(&mut disk, first);
+    change(&mut disk, second);
+    match boot(disk) {
+        Ok((_banks, state)) => Ok(Ok(state)),
+        Err((fault, _disk)) => Ok(Err(fault)),
+    }
+}
+
+/// A byte of that store that is changed, and the fault that is found then.
+const CHANGES: [(u64, u8, BootFault); 23] = [
+    // The compat cell: its gate, twins, the version, and the bytes behind it.
+    (0, 0, NotAStore(0)),
+    (0, 0x5A, NotAStore(0x5A)),
+    (16, 0xA5, BadCell(0)),
+    (9, 2, UnknownVersion(2)),
+    (10, 1, UnknownVersion(257)),
+    (13, 1, BadCell(0)),
+    // The states: twins, a bank that is none, a count above the limit, no open gate.
+    (33, 2, BadCell(1)),
+    (57, 2, BadCell(1)),
+    (63, 2, BadCell(1)),
+    (64, 0, BadCell(2)),
+    (80, 0xA5, BadCell(2)),
+    (96, 0, BadCell(3)),
+    (112, 0xA5, BadCell(3)),
+    // The record: another id, seq or kind, flags that no record has, and a frame that the check refuses.
+    (24_512, 2, BadItem(Mission, 0)),
+    (24_516, 1, BadItem(Mission, 0)),
+    (24_518, 1, BadItem(Mission, 0)),
+    (24_519, 0x3F, BadItem(Mission, 0)),
+    (24_520, 9, BadItem(Mission, 0)),
+    // The mark: twins, the id of a mission to come, an index behind the end, pairs that are no mark's.
+    (208, 0xA5, BadCell(4)),
+    (137, 2, BadCell(4)),
+    (141, 2, BadCell(4)),
+    (143, 1, BadCell(4)),
+    (143, 17, BadCell(4)),
+];
+
+/// Two bytes that are changed, and the first of their faults; at last a mark whose one pair counts no jump.
+const TWO_CHANGES: [((u64, u8), (u64, u8), BootFault); 6] = [
+    ((16, 0xA5), (9, 2), BadCell(0)),
+    ((9, 2), (13, 1), UnknownVersion(2)),
+    ((57, 2), (64, 0), BadCell(1)),
+    ((96, 0), (24_512, 2), BadCell(3)),
+    ((24_512, 2), (141, 2), BadItem(Mission, 0)),
+    ((143, 1), (146, 1), BadCell(4)),
+];
+
+#[test]
+fn one_byte_makes_each_fault(rt: HostRuntime) -> Result<(), Fail> {
+    let alloc = rt.alloc();
+    for (at, byte, fault) in CHANGES {
+        assert_eq!(rt;
+            found_with(alloc, (at, byte), (at, byte))?,
+            Err(fault),
+            "{byte} at {at}"
+        );
+    }
+    for (first, second, fault) in TWO_CHANGES {
+        assert_eq!(rt;
+            found_with(alloc, first, second)?,
+            Err(fault),
+            "{first:?} {second:?}"
+        );
+    }
+    // A byte that means nothing, and the mark of a mission before, which is as good as none.
+    assert_eq!(rt;
+        found_with(alloc, (400, 9), (401, 9))?,
+        Ok(told_of(1, 1, 1))
+    );
+    assert_eq!(rt;
+        found_with(alloc, (137, 0), (137, 0))?,
+        Ok(told_of(1, 1, 0))
+    );
+    Ok(())
+}
+
+#[test]
+fn a_new_store_takes_five_calls(rt: HostRuntime) -> Result<(), Fail> {
+    let alloc = rt.alloc();
+    for call in 1..7 {
+        let fails = vec![in alloc; (1, call), (1, call + 1)]?;
+        let mut disk = MemoryDisk::new(alloc, STORE_BYTES, fails)?;
+        disk.arm(None);
+        let wanted = if call < 6 { Err(DiskFailed) } else { Ok(()) };
+        assert_eq!(rt; init_store(&mut disk), wanted, "{call}");
+        // The first byte goes last.
+        let mut first = [1];
+        assert_eq!(rt; disk.read_at(0, &mut first), Ok(()), "{call}");
+        assert_eq!(rt; first[0], if call < 5 { 0 } else { 0xA5 }, "{call}");
+        // It asked nothing more, so this is the call behind.
+        assert_eq!(rt; disk.sync(), Err(DiskFault::Failed), "{call}");
+    }
+    Ok(())
+}
+
+/// What a boot of that store finds with this cut armed.
+fn found_cut(alloc: Global, cut: CutAt) -> Result<Result<BootState, BootFault>, AllocError> {
+    let mut disk = MemoryDisk::new(alloc, STORE_BYTES, Vec::new(alloc))?;
+    let _written = write_store(&mut disk);
+    disk.arm(Some(cut));
+    match boot(disk) {
+        Ok((_banks, state)) => Ok(Ok(state)),
+        Err((fault, _disk)) => Ok(Err(fault)),
+    }
+}
+
+#[test]
+fn a_boot_is_a_sync_and_two_reads_a_cell_and_one_an_item(rt: HostRuntime) -> Result<(), Fail> {
+    let alloc = rt.alloc();
+    let up = Ok(told_of(1, 1, 1));
+    let rows = [
+        (CutAt::Change(1, Tear::New), Err(PowerOff)),
+        (CutAt::Change(2, Tear::New), up),
+        (CutAt::Read(1, Tear::New), Err(PowerOff)),
+        (CutAt::Read(11, Tear::New), Err(PowerOff)),
+        (CutAt::Read(12, Tear::New), up),
+    ];
+    for (cut, wanted) in rows {
+        assert_eq!(rt; found_cut(alloc, cut)?, wanted, "{cut:?}");
+    }
+    Ok(())
+}
