@@ -1,0 +1,7 @@
+mod Records
+mod Holding
+mod Counting
+mod Quiet
+mod Writing
+mod Changing
+mod Settling
