@@ -5,7 +5,3 @@ pub mod VehicleRun
 pub mod OneVehicle
 pub mod Kept
 pub mod CheckState
-pub mod BootTold
-pub mod BootReady
-pub mod Order
-pub mod CoreRun

@@ -30,6 +30,7 @@ Replies-one v (about.Read kind id seq) (reply.Item item) a b h k = h.after ∙ s
 Replies-one v (about.Read kind id seq) (reply.Stale now) a b h k = h.after ∙ sym k.after
 Replies-one v (about.Write kind id seq) reply.Done a b h k = h ∙ sym k
 Replies-one v (about.Commit kind id count) reply.Done a b h k = h.after ∙ sym k.after
+Replies-one v (about.Commit kind id count) (reply.Spent last) a b h k = h.1 ∙ sym k.1
 Replies-one v asked given a b h k = absurd h
 
 -- what a client asked, where something is in service

@@ -3,6 +3,7 @@
 use Rattle.std.specs.Prelude.{◌≡◌, ◌≢◌, ℕ, ◌+◌, ◌<◌, ◌≤◌, ◌==◌, ◌&&◌, not, Bool, true, false, List, length, Option, Some, None, option_map}
 use Rattle.mission_model.specs.declared.counts.Mark.{Mark}
 use Rattle.mission_model.specs.declared.command.TheConstants.{NAV_LOITER_UNLIM}
+use Rattle.mission_model.specs.declared.limits.TheConstants.{LAST_GENERATION}
 use Rattle.mission_model.specs.declared.plan.PlanType.{PlanType}
 use Rattle.mission_model.specs.declared.plan.PlanHead.{PlanHead}
 use Rattle.mission_model.specs.declared.plan.Item.{Item}
@@ -60,13 +61,14 @@ pub record Commits (v : VehicleState) (kind : PlanType) (id count : ℕ) (v' : V
   pub valid : PlanValid kind (draft_of v.drafts kind id)
   pub after : v' ≡ committed v kind (told id (draft_of v.drafts kind id))
 
--- what a service does by its reply; a device that fails, a power that is cut and a last generation come with the store on
--- a disk
+-- what a service does by its reply; a commit of which the generation is spent changes nothing. A device that fails and a
+-- power that is cut come with the store on a disk
 abbrev pub Replies : VehicleState → Asked → Reply → VehicleState → Type 0
 Replies v (about.Read kind id seq) (reply.Item item) v' = Reads v kind id seq item v'
 Replies v (about.Read kind id seq) (reply.Stale now) v' = IsStale v kind id now v'
 Replies v (about.Write kind id seq) reply.Done v' = v' ≡ v
 Replies v (about.Commit kind id count) reply.Done v' = Commits v kind id count v'
+Replies v (about.Commit kind id count) (reply.Spent last) v' = (last ≡ LAST_GENERATION) × (v' ≡ v)
 Replies v asked given v' = ⊥
 
 -- the request in service is served: its client has this reply

@@ -236,3 +236,33 @@ fn one_waypoint_is_uploaded_and_flown(rt: HostRuntime) -> Result<(), Fail> {
     ];
     expect_run(&rt, rt.alloc(), &lines, &changed)
 }
+
+#[test]
+fn a_commit_at_the_last_generation_changes_nothing(rt: HostRuntime) -> Result<(), Fail> {
+    let spent = Reply::Spent(18_446_744_073_709_551_615);
+    let lines = [
+        boot(1, 0),
+        counts(1),
+        writes(1, 0, waypoint(470000000, 80000000, 10000)),
+        takes(LINK, write(1, 0)),
+        serves(LINK, Reply::Done),
+        hears(0, commits(1, 1)),
+        takes(LINK, commit(1, 1)),
+        serves(LINK, spent),
+        Line::Heard {
+            link: 0,
+            reply: spent,
+            answer: Answer::Ack(AckCode::Error),
+        },
+        nav(TO_MISSION, NavWhat::Taken, 0),
+        nav(VehicleLine::Go, NavWhat::HoldEmpty, 0),
+        Line::End,
+    ];
+    let changed = [
+        (4, serves(LINK, spent)),
+        (7, serves(LINK, Reply::Spent(18_446_744_073_709_551_614))),
+        (8, hears(0, ACCEPTED)),
+        (10, nav(VehicleLine::Go, pending(0), 1)),
+    ];
+    expect_run(&rt, rt.alloc(), &lines, &changed)
+}

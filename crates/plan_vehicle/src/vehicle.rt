@@ -9,6 +9,7 @@ mod events;
 use crate::drafts::Drafts;
 use crate::plan::Plan;
 use crate::served::Served;
+use mission_model::limits::LAST_GENERATION;
 use mission_model::{
     AckCode, Answer, Asked, Client, Counts, Item, Line, Mark, Mode, PlanHead, PlanType, Reply,
     check_plan, is_same_reply,
@@ -139,6 +140,7 @@ impl Vehicle {
             (Asked::Commit { kind, id, count }, Reply::Done) => {
                 self.commits(alloc, kind, id, count)
             }
+            (Asked::Commit { .. }, Reply::Spent(last)) => Ok(last == LAST_GENERATION),
             _ => Ok(false),
         }
     }
