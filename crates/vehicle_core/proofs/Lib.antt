@@ -9,9 +9,6 @@ pub mod NavPlans
 pub mod Readiness
 pub mod Seats
 pub mod Beginning
-pub mod DraftsKept
-pub mod DraftsServed
-pub mod DraftsLaw
 pub mod NavParts
 pub mod LinkParts
 pub mod CoreParts

@@ -28,7 +28,6 @@ use Rattle.vehicle_core.specs.SharedState.{SharedState}
 use Rattle.vehicle_core.specs.LinkState.{LinkState, LinkFits, SessionFits, Uploading, NoUpload, IsForLink, link_done, session_out}
 use Rattle.vehicle_core.specs.LinkLaw as law
 use Rattle.vehicle_core.proofs.Inputs.{NoUpload-fresh}
-use Rattle.vehicle_core.proofs.DraftsKept.{free_at}
 use Rattle.vehicle_core.proofs.LinkPlans.{session_out-le}
 use Rattle.vehicle_core.proofs.Servable.{Uploading-within}
 
@@ -38,6 +37,13 @@ pub record LinkMade (s : SharedState) (l : LinkState) (s' : SharedState) (l' : L
   pub fits : LinkFits s' l'
   pub service : s'.board.service ≡ s.board.service
   pub places : length s'.board.link_posted ≡ length s.board.link_posted
+
+-- a session goes on only while its upload is the current input
+free_at : (schedule : ScheduleState) (current : Session) → ((count : ℕ) → Uploading schedule.inputs count → ⊥) → SessionFits schedule current → current ≡ session.Free
+free_at schedule session.Free none fits = refl
+free_at schedule (session.Receiving id count seq) none fits = absurd (none count fits.0)
+free_at schedule (session.Writing id count seq) none fits = absurd (none count fits.0)
+free_at schedule (session.Committing id count) none fits = absurd (none count fits.0)
 
 -- a link that has begun nothing fits where nothing of its own is outstanding
 free_fits : (s : SharedState) (l : LinkState) → outstanding s.board (Link l.number) ≡ 0 → l.session ≡ session.Free → NoUpload l.schedule.inputs l.schedule.begun → All IsForLink l.schedule.inputs → LinkFits s l

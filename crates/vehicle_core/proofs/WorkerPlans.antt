@@ -107,20 +107,20 @@ plans_committed s links n number id count l fits one at is link committing serve
       used = rw head used;
     }
 
--- a commit has no other reply than Done
-Done-commit : (id count : ℕ) (given : Reply) → worker.ReplySuits (request.Commit Mission id count) given → given ≡ reply.Done
-Done-commit id count reply.Done suits = refl
-Done-commit id count (reply.Item item) suits = absurd suits
-Done-commit id count (reply.Stale now) suits = absurd suits
-Done-commit id count reply.DiskFailed suits = absurd suits
-Done-commit id count reply.PowerOff suits = absurd suits
-Done-commit id count (reply.Spent last) suits = absurd suits
+-- a commit is served: where it is not done, no head changes
+plans_commit_served : (s : SharedState) (links : List LinkState) (n : NavState) (number id count : ℕ) (l : LinkState) (given : Reply) → PlansFit s links n → length links ≤ 1 → slice_get links number ≡ Some l → l.number ≡ number → LinkFits s l → l.session ≡ session.Committing id count → s.board.service ≡ Some (Link number, request.Commit Mission id count) → worker.ReplySuits (request.Commit Mission id count) given → (mission_head s).id < id → PlansFit (with_board s (board.answered s.board (Link number) (about.Commit Mission id count) given)) links n
+plans_commit_served s links n number id count l reply.Done fits one at is link committing serves suits newer = plans_committed s links n number id count l fits one at is link committing serves newer
+plans_commit_served s links n number id count l (reply.Spent last) fits one at is link committing serves suits newer = PlansFit-same s (with_board s (board.answered s.board (Link number) (about.Commit Mission id count) (reply.Spent last))) links n n fits tt refl refl refl refl refl
+plans_commit_served s links n number id count l (reply.Item item) fits one at is link committing serves suits newer = absurd suits
+plans_commit_served s links n number id count l (reply.Stale now) fits one at is link committing serves suits newer = absurd suits
+plans_commit_served s links n number id count l reply.DiskFailed fits one at is link committing serves suits newer = absurd suits
+plans_commit_served s links n number id count l reply.PowerOff fits one at is link committing serves suits newer = absurd suits
 
 -- the request of a link is served
 plans_link_served : (s : SharedState) (links : List LinkState) (n : NavState) (number : ℕ) (l : LinkState) (current : Session) (asked : Request) (given : Reply) → PlansFit s links n → length links ≤ 1 → slice_get links number ≡ Some l → l.number ≡ number → LinkFits s l → l.session ≡ current → s.board.service ≡ Some (Link number, asked) → worker.ReplySuits asked given → IsAwaited l.schedule.inputs current asked → IsNewer (mission_head s) asked → PlansFit (with_board s (board.answered s.board (Link number) (board.asked_of asked) given)) links n
 plans_link_served s links n number l (session.Writing id count seq) (request.Write Mission other place item) given fits one at is link was serves suits awaited newer = PlansFit-same s (with_board s (board.answered s.board (Link number) (about.Write Mission other place) given)) links n n fits tt refl refl refl refl refl
 plans_link_served s links n number l (session.Committing id count) (request.Commit Mission other total) given fits one at is link was serves suits (same, counts) newer =
-    rw (Done-commit other total given suits) (plans_committed s links n number other total l fits one at is link (was ∙ sym (λ k. session.Committing (same k) (counts k))) serves newer)
+    plans_commit_served s links n number other total l given fits one at is link (was ∙ sym (λ k. session.Committing (same k) (counts k))) serves suits newer
 plans_link_served s links n number l current asked given fits one at is link was serves suits awaited newer = absurd awaited
 
 plans_link_found : (s : SharedState) (links : List LinkState) (n : NavState) (number : ℕ) (found : Option LinkState) (asked : Request) (given : Reply) → PlansFit s links n → length links ≤ 1 → ((k : ℕ) (d : LinkState) → k < length links → ((get_or links k d).number ≡ k) × LinkFits s (get_or links k d)) → slice_get links number ≡ found → s.board.service ≡ Some (Link number, asked) → worker.ReplySuits asked given → LinkAsks (mission_head s) found asked → PlansFit (with_board s (board.answered s.board (Link number) (board.asked_of asked) given)) links n

@@ -11,5 +11,4 @@ pub mod PlansFit
 pub mod CoreState
 pub mod NewCore
 pub mod CoreLaw
-pub mod Drafts
 pub mod PartsLaw

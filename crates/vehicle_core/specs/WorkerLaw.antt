@@ -19,7 +19,10 @@ ReplySuits (request.Read kind id seq) (reply.Item item) = Unit {0}
 ReplySuits (request.Read kind id seq) (reply.Stale now) = Unit {0}
 ReplySuits (request.Write kind id seq item) reply.Done = Unit {0}
 ReplySuits (request.Commit kind id count) reply.Done = Unit {0}
+ReplySuits (request.Commit kind id count) (reply.Spent last) = Unit {0}
 ReplySuits (request.SetMark mark) reply.Done = Unit {0}
+ReplySuits (request.SetMark mark) (reply.Stale now) = Unit {0}
+ReplySuits (request.SetMark mark) (reply.Spent last) = Unit {0}
 ReplySuits asked given = ⊥
 
 -- the request that is taken, without its client

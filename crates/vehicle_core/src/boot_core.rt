@@ -5,7 +5,6 @@ ghost use Rattle.vehicle_core.specs.SharedState.{mission_head};
 ghost use Rattle.vehicle_core.specs.PlansFit.{IsServable};
 ghost use Rattle.vehicle_core.specs.CoreLaw.{CoreSuits, CoreStep, IsReady};
 ghost use Rattle.vehicle_core.specs.WorkerLaw.{request_of};
-ghost use Rattle.vehicle_core.specs.Drafts.{DraftsBegin, DraftsStay, DraftsWhole};
 ghost use Rattle.vehicle_core.specs.NewCore.{InLimits, StateFits, new_core};
 ghost use Rattle.vehicle_core.specs.CoreState.{CoreFits, IsFinished};
 
@@ -67,6 +66,7 @@ impl Core {
         ensures fits { CoreFits self.new }
     {
         let out = self.act(actor, input);
+        // That the parts fit is known where a part is named.
         let _ = &self.taken;
         out
     }
@@ -112,11 +112,3 @@ impl Core {
         true
     }
 }
-
-/// Laws on a store that keeps the drafts of uploads: a new core relies on none, a step keeps what the core relies on
-/// where the store follows the worker's services, and a commit that is taken has each of its items written.
-pub fn drafts_are_whole()
-    ensures begin { DraftsBegin }
-    ensures stay { DraftsStay }
-    ensures whole { DraftsWhole }
-{}

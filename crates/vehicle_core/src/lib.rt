@@ -20,6 +20,6 @@ pub enum StepOut<L> {
     Idle,
 }
 
-pub use boot_core::{Core, drafts_are_whole};
+pub use boot_core::Core;
 pub use mission_model::Actor;
 pub use parts::parts_fit;

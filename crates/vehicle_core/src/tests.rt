@@ -169,6 +169,46 @@ fn is_same_what(left: NavWhat, right: NavWhat) -> bool {
     }
 }
 
+fn is_same_worker_line(left: &Line, right: &Line) -> bool {
+    match (*left, *right) {
+        (
+            Line::Took { client, asked },
+            Line::Took {
+                client: of,
+                asked: other,
+            },
+        ) => client == of && asked == other,
+        (
+            Line::Served { client, reply },
+            Line::Served {
+                client: of,
+                reply: other,
+            },
+        ) => client == of && reply == other,
+        _ => false,
+    }
+}
+
+fn is_same_meeting(left: &Line, right: &Line) -> bool {
+    match (*left, *right) {
+        (
+            Line::Arrived { client, place },
+            Line::Arrived {
+                client: of,
+                place: at,
+            },
+        ) => client == of && place == at,
+        (
+            Line::Met { client, place },
+            Line::Met {
+                client: of,
+                place: at,
+            },
+        ) => client == of && place == at,
+        _ => false,
+    }
+}
+
 fn is_same_line(left: &Line, right: &Line) -> bool {
     match (*left, *right) {
         (
@@ -192,20 +232,6 @@ fn is_same_line(left: &Line, right: &Line) -> bool {
             },
         ) => link == of && reply == other && answer == by,
         (
-            Line::Took { client, asked },
-            Line::Took {
-                client: of,
-                asked: other,
-            },
-        ) => client == of && asked == other,
-        (
-            Line::Served { client, reply },
-            Line::Served {
-                client: of,
-                reply: other,
-            },
-        ) => client == of && reply == other,
-        (
             Line::Got { asked, reply },
             Line::Got {
                 asked: other,
@@ -213,27 +239,13 @@ fn is_same_line(left: &Line, right: &Line) -> bool {
             },
         ) => asked == other && reply == by,
         (
-            Line::Arrived { client, place },
-            Line::Arrived {
-                client: of,
-                place: at,
-            },
-        ) => client == of && place == at,
-        (
-            Line::Met { client, place },
-            Line::Met {
-                client: of,
-                place: at,
-            },
-        ) => client == of && place == at,
-        (
             Line::Nav { input, entry },
             Line::Nav {
                 input: other,
                 entry: by,
             },
         ) => input == other && entry.asked == by.asked && is_same_what(entry.what, by.what),
-        _ => false,
+        _ => is_same_worker_line(left, right) || is_same_meeting(left, right),
     }
 }
 
@@ -251,6 +263,29 @@ fn heard(answer: Answer) -> Line {
         reply: Reply::Done,
         answer,
     }
+}
+
+fn took(client: Client, asked: Asked) -> Line {
+    Line::Took { client, asked }
+}
+
+fn serves(client: Client, reply: Reply) -> Line {
+    Line::Served { client, reply }
+}
+
+fn got(seq: u16, item: Item) -> Line {
+    Line::Got {
+        asked: read(seq),
+        reply: Reply::Item(item),
+    }
+}
+
+fn arrived(client: Client) -> Line {
+    Line::Arrived { client, place: 0 }
+}
+
+fn met(client: Client) -> Line {
+    Line::Met { client, place: 0 }
 }
 
 fn nav(input: VehicleLine, what: NavWhat, asked: u8) -> Line {
@@ -297,7 +332,6 @@ fn leg(seq: u16, item: Item) -> NavWhat {
 /// The lines of the upload.
 fn upload_lines() -> [Line; 17] {
     let link = Client::Link(0);
-    let reply = Reply::Done;
     let commits = Answer::Commits {
         kind: MISSION,
         id: 1,
@@ -310,51 +344,21 @@ fn upload_lines() -> [Line; 17] {
     };
     [
         sent(Said::Count { kind: 0, count: 2 }, Answer::RequestInt(0)),
-        Line::Arrived {
-            client: Client::Nav,
-            place: 0,
-        },
+        arrived(Client::Nav),
         sent(Said::Item(0), writes(0, FIRST)),
-        Line::Took {
-            client: link,
-            asked: write(0),
-        },
-        Line::Served {
-            client: link,
-            reply,
-        },
+        took(link, write(0)),
+        serves(link, Reply::Done),
         heard(Answer::RequestInt(1)),
         sent(Said::Item(1), writes(1, SECOND)),
-        Line::Took {
-            client: link,
-            asked: write(1),
-        },
-        Line::Served {
-            client: link,
-            reply,
-        },
+        took(link, write(1)),
+        serves(link, Reply::Done),
         heard(commits),
-        Line::Took {
-            client: link,
-            asked: commit,
-        },
-        Line::Served {
-            client: link,
-            reply,
-        },
+        took(link, commit),
+        serves(link, Reply::Done),
         heard(Answer::Ack(AckCode::Accepted)),
-        Line::Arrived {
-            client: link,
-            place: 0,
-        },
-        Line::Met {
-            client: Client::Nav,
-            place: 0,
-        },
-        Line::Met {
-            client: link,
-            place: 0,
-        },
+        arrived(link),
+        met(Client::Nav),
+        met(link),
         nav(VehicleLine::Mode(Mode::Mission), NavWhat::Taken, 0),
     ]
 }
@@ -372,30 +376,12 @@ fn flight_lines() -> [Line; 12] {
     };
     [
         nav(VehicleLine::Go, pending, 2),
-        Line::Took {
-            client,
-            asked: read(0),
-        },
-        Line::Served {
-            client,
-            reply: Reply::Item(FIRST),
-        },
-        Line::Got {
-            asked: read(0),
-            reply: Reply::Item(FIRST),
-        },
-        Line::Took {
-            client,
-            asked: read(1),
-        },
-        Line::Served {
-            client,
-            reply: Reply::Item(SECOND),
-        },
-        Line::Got {
-            asked: read(1),
-            reply: Reply::Item(SECOND),
-        },
+        took(client, read(0)),
+        serves(client, Reply::Item(FIRST)),
+        got(0, FIRST),
+        took(client, read(1)),
+        serves(client, Reply::Item(SECOND)),
+        got(1, SECOND),
         nav(VehicleLine::Go, leg(0, FIRST), 0),
         nav(VehicleLine::Reached, NavWhat::Next(1), 0),
         nav(VehicleLine::Go, leg(1, SECOND), 0),
