@@ -73,6 +73,15 @@ words_text (WatchGot watch asked reply note asks) =
 words_text End = codes "end"
 words_text Stuck = codes "stuck"
 
+-- the line is of who reads plans: of the Navigator or of a watcher
+abbrev pub IsOfReader : Line → Type 0
+IsOfReader (Got asked reply) = ⊤
+IsOfReader (Nav event entry) = ⊤
+IsOfReader (Dropped kind seq) = ⊤
+IsOfReader (WatchDid watch input note asked) = ⊤
+IsOfReader (WatchGot watch asked reply note asks) = ⊤
+IsOfReader _ = ⊥
+
 -- the text of a line: its words, and LF
 abbrev pub line_text_of : Line → List ℕ
 line_text_of line = words_text line ++ codes "\n"

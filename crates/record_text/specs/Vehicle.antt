@@ -67,6 +67,12 @@ what_text (ReturnSafe seq safe fence item) = codes "return safe " ++ safe_text s
 what_text ReturnNone = codes "return none"
 what_text ReturnDone = codes "return done"
 
+-- the entry is that of a jump
+abbrev pub IsJumpEntry : NavWhat → Type 0
+IsJumpEntry (Jump seq to used mission fence) = ⊤
+IsJumpEntry (JumpSpent seq mission fence) = ⊤
+IsJumpEntry _ = ⊥
+
 -- the entry is a step of the mission
 abbrev pub IsMissionEntry : NavWhat → Type 0
 IsMissionEntry (Leg seq mission fence item) = ⊤

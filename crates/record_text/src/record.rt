@@ -1,7 +1,7 @@
 //! The lines of the record, as text: each line's words with one space between them, ended by LF.
 
 ghost use Rattle.std.specs.Prelude.{◌≡◌, ◌++◌, ◌↔◌, All, IsTrue, OnOk, IfOk};
-ghost use Rattle.record_text.specs.Record.{IsOnMission, IsPrintable, heads_text, asks_text, told_text, at_place_text, got_text, words_text, line_text_of, LineText, RecordText};
+ghost use Rattle.record_text.specs.Record.{IsOnMission, IsPrintable, IsOfReader, heads_text, asks_text, told_text, at_place_text, got_text, words_text, line_text_of, LineText, RecordText};
 ghost use Rattle.record_text.specs.Messages.{IsPrintableSaid};
 ghost use Rattle.mission_model.specs.declared.flight_line.Line.TheVariants as line;
 
@@ -163,6 +163,40 @@ fn push_watch_got(
     push_told(out, note, asks)
 }
 
+/// The words of the Navigator's and of a watcher's line.
+fn push_reading(out: &mut Text, line: &Line) -> Result<(), AllocError>
+    requires { IsOfReader line.now }
+    ensures { OnOk result (out.new ≡ out.old ++ words_text line.now) }
+{
+    match line {
+        Line::Got { asked, reply } => {
+            out.push(b"nav ")?;
+            push_got(out, asked, reply)
+        }
+        Line::Nav { input, entry } => push_nav(out, input, entry),
+        Line::Dropped { kind, seq } => {
+            out.push(b"nav drop ")?;
+            push_kind(out, *kind)?;
+            out.push(b" ")?;
+            out.push_number(*seq as u64)
+        }
+        Line::WatchDid {
+            watch,
+            input,
+            note,
+            asked,
+        } => push_watch_did(out, *watch, input, note, *asked),
+        Line::WatchGot {
+            watch,
+            asked,
+            reply,
+            note,
+            asks,
+        } => push_watch_got(out, *watch, asked, reply, note, *asks),
+        _ => unreachable!(),
+    }
+}
+
 fn push_words(out: &mut Text, line: &Line) -> Result<(), AllocError>
     requires { IsPrintable line.now }
     ensures { OnOk result (out.new ≡ out.old ++ words_text line.now) }
@@ -192,30 +226,11 @@ fn push_words(out: &mut Text, line: &Line) -> Result<(), AllocError>
         } => push_heard(out, *link, reply, answer),
         Line::Took { client, asked } => push_took(out, client, asked),
         Line::Served { client, reply } => push_served(out, client, reply),
-        Line::Got { asked, reply } => {
-            out.push(b"nav ")?;
-            push_got(out, asked, reply)
-        }
-        Line::Nav { input, entry } => push_nav(out, input, entry),
-        Line::Dropped { kind, seq } => {
-            out.push(b"nav drop ")?;
-            push_kind(out, *kind)?;
-            out.push(b" ")?;
-            out.push_number(*seq as u64)
-        }
-        Line::WatchDid {
-            watch,
-            input,
-            note,
-            asked,
-        } => push_watch_did(out, *watch, input, note, *asked),
-        Line::WatchGot {
-            watch,
-            asked,
-            reply,
-            note,
-            asks,
-        } => push_watch_got(out, *watch, asked, reply, note, *asks),
+        Line::Got { .. }
+        | Line::Nav { .. }
+        | Line::Dropped { .. }
+        | Line::WatchDid { .. }
+        | Line::WatchGot { .. } => push_reading(out, line),
         Line::End => out.push(b"end"),
         Line::Stuck => out.push(b"stuck"),
     }

@@ -1,7 +1,7 @@
 //! The vehicle's events and what the Navigator does at them, as text.
 
 ghost use Rattle.std.specs.Prelude.{◌≡◌, ◌++◌, OnOk};
-ghost use Rattle.record_text.specs.Vehicle.{mode_text, event_text, flown_text, at_text, target_text, taken_text, safe_text, what_text, IsMissionEntry, IsReturnEntry};
+ghost use Rattle.record_text.specs.Vehicle.{mode_text, event_text, flown_text, at_text, target_text, taken_text, safe_text, what_text, IsJumpEntry, IsMissionEntry, IsReturnEntry};
 
 use crate::plans::{push_item, push_kind, push_place};
 use crate::text::Text;
@@ -91,6 +91,37 @@ fn push_safe(out: &mut Text, seq: u16, safe: u32, fence: u32, item: &Item) -> Re
     push_item(out, item)
 }
 
+fn push_jump(out: &mut Text, what: &NavWhat) -> Result<(), AllocError>
+    requires { IsJumpEntry what.now }
+    ensures { OnOk result (out.new ≡ out.old ++ what_text what.now) }
+{
+    match what {
+        NavWhat::Jump {
+            seq,
+            to,
+            used,
+            mission,
+            fence,
+        } => {
+            out.push(b"jump ")?;
+            push_taken(out, *seq, *to, *used)?;
+            out.push(b" ")?;
+            push_flown(out, *mission, *fence)
+        }
+        NavWhat::JumpSpent {
+            seq,
+            mission,
+            fence,
+        } => {
+            out.push(b"jump ")?;
+            out.push_number(*seq as u64)?;
+            out.push(b" spent ")?;
+            push_flown(out, *mission, *fence)
+        }
+        _ => unreachable!(),
+    }
+}
+
 fn push_mission(out: &mut Text, what: &NavWhat) -> Result<(), AllocError>
     requires { IsMissionEntry what.now }
     ensures { OnOk result (out.new ≡ out.old ++ what_text what.now) }
@@ -114,28 +145,7 @@ fn push_mission(out: &mut Text, what: &NavWhat) -> Result<(), AllocError>
             out.push(b"action ")?;
             push_target(out, *seq, *mission, *fence, item)
         }
-        NavWhat::Jump {
-            seq,
-            to,
-            used,
-            mission,
-            fence,
-        } => {
-            out.push(b"jump ")?;
-            push_taken(out, *seq, *to, *used)?;
-            out.push(b" ")?;
-            push_flown(out, *mission, *fence)
-        }
-        NavWhat::JumpSpent {
-            seq,
-            mission,
-            fence,
-        } => {
-            out.push(b"jump ")?;
-            out.push_number(*seq as u64)?;
-            out.push(b" spent ")?;
-            push_flown(out, *mission, *fence)
-        }
+        NavWhat::Jump { .. } | NavWhat::JumpSpent { .. } => push_jump(out, what),
         NavWhat::Done { mission, fence } => {
             out.push(b"done ")?;
             push_flown(out, *mission, *fence)
