@@ -29,13 +29,14 @@ use Rattle.run_script.specs.Words.{word, says, is_same}
 use Rattle.run_script.specs.Numbers.{whole_of, whole_within}
 use Rattle.run_script.specs.Actors.{actor_of}
 use Rattle.run_script.specs.Reads.{or_fault}
-use Rattle.run_script.specs.Forms.{form_of, names_rich, is_calm}
+use Rattle.run_script.specs.Forms.{form_of, names_unplain, are_events_built}
 use Rattle.run_script.specs.Plain.{IsPlain}
-use Rattle.run_script.specs.Entries.{no_params, empty_draft, with_params, number_in, meeting, plan_named, upload, is_upload, has_room, with_input, actors_more, actors_of, with_turns, after_entry}
+use Rattle.run_script.specs.Uploads.{is_upload}
+use Rattle.run_script.specs.Entries.{no_params, empty_draft, with_params, number_in, meeting, plan_named, upload, has_room, with_input, actors_more, actors_of, with_turns, after_entry}
 use Rattle.run_script.specs.Measures.{Measures}
 use Rattle.run_script.specs.Plans.{is_name, new_name, plan_text, kept_items, Fills}
 use Rattle.run_script.specs.Places.{is_skipped, after_top, after_within, States, StatesBy, AmongLeads, Leads}
-use Rattle.run_script.specs.Flyable.{IsLinkInput, IsNavInput, IsListed, IsQuiet, IsOfRun}
+use Rattle.run_script.specs.Flyable.{IsLinkInput, IsNavInput, IsListed, IsNoEvent, IsOfRun}
 use Rattle.run_script.proofs.Choosing.{choose, given, refused, bound}
 use Rattle.run_script.proofs.SafeForms.{IsSafeEntry, IsSafe, form_safe}
 
@@ -57,7 +58,7 @@ pub record IsFit (draft : Draft) : Type 0 where
   pub words : length draft.turns ≤ MAX_TURN_WORDS
   pub start : draft.booted ≡ false → draft.inputs ≡ []
   pub params : draft.has_param ≡ false → draft.params ≡ no_params
-  pub events : All IsQuiet draft.inputs ⊎ (draft.params ≡ no_params)
+  pub events : All IsNoEvent draft.inputs ⊎ (draft.params ≡ no_params)
 
 pub All-nil : {X : Type 0} (P : X → Type 0) → All P []
 All-nil P = λ k d l. absurd (omega arith)
@@ -84,8 +85,8 @@ empty_fit = record {
   events = inr refl;
 }
 
-quiet_start : (draft : Draft) → IsFit draft → draft.booted ≡ false → All IsQuiet draft.inputs
-quiet_start draft fit head = subst (λ (inputs : List (Actor × InputLine)). All IsQuiet inputs) (sym (fit.start head)) (All-nil IsQuiet)
+no_event_at_start : (draft : Draft) → IsFit draft → draft.booted ≡ false → All IsNoEvent draft.inputs
+no_event_at_start draft fit head = subst (λ (inputs : List (Actor × InputLine)). All IsNoEvent inputs) (sym (fit.start head)) (All-nil IsNoEvent)
 
 params_fit : (draft : Draft) (params : Params) → IsFit draft → draft.booted ≡ false → IsFit (with_params draft params)
 params_fit draft params fit head = record {
@@ -99,7 +100,7 @@ params_fit draft params fit head = record {
   words = fit.words;
   start = fit.start;
   params = λ h. absurd cc;
-  events = inl (quiet_start draft fit head);
+  events = inl (no_event_at_start draft fit head);
 }
 
 home_fit : (draft : Draft) (home : _) → IsFit draft → IsFit (record draft { home = home })
@@ -160,11 +161,11 @@ record MayCome (draft : Draft) (input : Actor × InputLine) : Type 0 where
   flight : draft.booted ≡ true
   listed : IsListed input
   actor : IsOfRun 1 input.0
-  quiet : IsQuiet input ⊎ (draft.params ≡ no_params)
+  no_event : IsNoEvent input ⊎ (draft.params ≡ no_params)
 
-more_events : (draft : Draft) (input : Actor × InputLine) → All IsQuiet draft.inputs ⊎ (draft.params ≡ no_params) → IsQuiet input ⊎ (draft.params ≡ no_params) → All IsQuiet (draft.inputs ++ input ∷ []) ⊎ (draft.params ≡ no_params)
-more_events draft input (inl quiet) (inl one) = inl (All-append IsQuiet draft.inputs (input ∷ []) quiet (All-one IsQuiet input one))
-more_events draft input (inl quiet) (inr none) = inr none
+more_events : (draft : Draft) (input : Actor × InputLine) → All IsNoEvent draft.inputs ⊎ (draft.params ≡ no_params) → IsNoEvent input ⊎ (draft.params ≡ no_params) → All IsNoEvent (draft.inputs ++ input ∷ []) ⊎ (draft.params ≡ no_params)
+more_events draft input (inl no_event) (inl one) = inl (All-append IsNoEvent draft.inputs (input ∷ []) no_event (All-one IsNoEvent input one))
+more_events draft input (inl no_event) (inr none) = inr none
 more_events draft input (inr none) one = inr none
 
 input_fit : (draft : Draft) (input : Actor × InputLine) (next : Draft) → IsFit draft → MayCome draft input → with_input draft input ≡ Ok next → IsFit next
@@ -182,7 +183,7 @@ input_fit draft input next fit may e = choose (has_room draft.inputs input) _ _ 
       words = fit.words;
       start = λ h. absurd (true_not_false draft.booted may.flight h);
       params = fit.params;
-      events = more_events draft input fit.events may.quiet;
+      events = more_events draft input fit.events may.no_event;
     }) r) (λ none r. refused _ next (IsFit next) r)
 
 in_range : (low high m n : ℕ) → cond (nat_le low m && nat_le m high) (Some m) None ≡ Some n → (low ≤ n) × (n ≤ high)
@@ -205,7 +206,7 @@ unfolding number_in
 number_in-ok field low high words n e = whole_within-some low high (word (field - 1) words) n (ok_some n (whole_within low high (word (field - 1) words)) (fault.Number field) e)
 
 abbrev IsMeeting : InputLine → Type 0
-IsMeeting input = IsLinkInput input × IsNavInput input × ((actor : Actor) → IsQuiet (actor, input))
+IsMeeting input = IsLinkInput input × IsNavInput input × ((actor : Actor) → IsNoEvent (actor, input))
 
 meeting-ok : (field : ℕ) (words : List (List ℕ)) (input : InputLine) → meeting field words ≡ Ok input → IsMeeting input
 unfolding meeting
@@ -224,26 +225,26 @@ flagged false q = cc
 same_plan : (x y : NamedPlan) → Some x ≡ Some y → x ≡ y
 same_plan x y e = cc
 
-named_by : (first plan : NamedPlan) (plans : List NamedPlan) (flag rich : Bool) (more : Option NamedPlan) (b : Bool) → (flag ≡ true → IsPlain first.kind first.items) → (rich ≡ false → more ≡ Some plan → IsPlain plan.kind plan.items)
-    → cond b (not flag) rich ≡ false → cond b (Some first) more ≡ Some plan → IsPlain plan.kind plan.items
-named_by first plan plans flag rich more true here later p e = subst (λ (x : NamedPlan). IsPlain x.kind x.items) (same_plan first plan e) (here (flagged flag p))
-named_by first plan plans flag rich more false here later p e = later p e
+named_by : (first plan : NamedPlan) (plans : List NamedPlan) (flag unplain : Bool) (more : Option NamedPlan) (b : Bool) → (flag ≡ true → IsPlain first.kind first.items) → (unplain ≡ false → more ≡ Some plan → IsPlain plan.kind plan.items)
+    → cond b (not flag) unplain ≡ false → cond b (Some first) more ≡ Some plan → IsPlain plan.kind plan.items
+named_by first plan plans flag unplain more true here later p e = subst (λ (x : NamedPlan). IsPlain x.kind x.items) (same_plan first plan e) (here (flagged flag p))
+named_by first plan plans flag unplain more false here later p e = later p e
 
 -- the plan of a name that is none of a plan that is not plain
-named_plain : (plans : List NamedPlan) (flags : List Bool) (name : List ℕ) (plan : NamedPlan) → Marked plans flags → names_rich plans flags name ≡ false → plan_named plans name ≡ Some plan → IsPlain plan.kind plan.items
-unfolding names_rich plan_named
-named_plain [] flags name plan marked poor e = cc
-named_plain (first ∷ plans) [] name plan marked poor e = absurd marked
-named_plain (first ∷ plans) (flag ∷ flags) name plan marked poor e =
-    named_by first plan plans flag (names_rich plans flags name) (plan_named plans name) (is_same first.name name) marked.0 (λ p h. named_plain plans flags name plan marked.1 p h) poor e
+named_plain : (plans : List NamedPlan) (flags : List Bool) (name : List ℕ) (plan : NamedPlan) → Marked plans flags → names_unplain plans flags name ≡ false → plan_named plans name ≡ Some plan → IsPlain plan.kind plan.items
+unfolding names_unplain plan_named
+named_plain [] flags name plan marked plain e = cc
+named_plain (first ∷ plans) [] name plan marked plain e = absurd marked
+named_plain (first ∷ plans) (flag ∷ flags) name plan marked plain e =
+    named_by first plan plans flag (names_unplain plans flags name) (plan_named plans name) (is_same first.name name) marked.0 (λ p h. named_plain plans flags name plan marked.1 p h) plain e
 
-upload-ok : (draft : Draft) (name : List ℕ) (input : InputLine) → IsFit draft → names_rich draft.plans draft.plain name ≡ false → upload draft.plans name ≡ Ok input → IsLinkInput input × ((actor : Actor) → IsQuiet (actor, input))
+upload-ok : (draft : Draft) (name : List ℕ) (input : InputLine) → IsFit draft → names_unplain draft.plans draft.plain name ≡ false → upload draft.plans name ≡ Ok input → IsLinkInput input × ((actor : Actor) → IsNoEvent (actor, input))
 unfolding upload
-upload-ok draft name input fit poor e = by (plan_named draft.plans name) refl e
+upload-ok draft name input fit plain e = by (plan_named draft.plans name) refl e
   where
-    by : (found : Option NamedPlan) → plan_named draft.plans name ≡ found → or_fault fault.Name (option_map (λ (plan : NamedPlan). Upload plan.kind plan.items) found) ≡ Ok input → IsLinkInput input × ((actor : Actor) → IsQuiet (actor, input))
+    by : (found : Option NamedPlan) → plan_named draft.plans name ≡ found → or_fault fault.Name (option_map (λ (plan : NamedPlan). Upload plan.kind plan.items) found) ≡ Ok input → IsLinkInput input × ((actor : Actor) → IsNoEvent (actor, input))
     by None is r = refused _ input _ r
-    by (Some plan) is r = given (Upload plan.kind plan.items) input (λ (i : InputLine). IsLinkInput i × ((actor : Actor) → IsQuiet (actor, i))) (named_plain draft.plans draft.plain name plan fit.marked poor is, λ actor. tt) r
+    by (Some plan) is r = given (Upload plan.kind plan.items) input (λ (i : InputLine). IsLinkInput i × ((actor : Actor) → IsNoEvent (actor, i))) (named_plain draft.plans draft.plain name plan fit.marked plain is, λ actor. tt) r
 
 actor_of-some : (name : List ℕ) (found : Option Actor) → actor_of name ≡ found → All (IsOfRun 1) (actors_more found [])
 unfolding actor_of
@@ -290,8 +291,8 @@ turns_fit draft names next fit e = choose (nat_le (length draft.turns + length n
       events = fit.events;
     }) r) (λ none r. refused _ next (IsFit next) r)
 
-calm_params : (draft : Draft) → IsFit draft → is_calm draft ≡ true → draft.params ≡ no_params
-calm_params draft fit calm = fit.params (no_param draft.has_param (list_all (λ plain. plain) draft.plain) calm)
+event_params : (draft : Draft) → IsFit draft → are_events_built draft ≡ true → draft.params ≡ no_params
+event_params draft fit built = fit.params (no_param draft.has_param (list_all (λ plain. plain) draft.plain) built)
   where
     no_param : (param plain : Bool) → not param && plain ≡ true → param ≡ false
     no_param true plain e = cc
@@ -304,16 +305,16 @@ entry_fit draft entry.Return words next fit safe e = bound (number_in 3 0 2 word
 entry_fit draft entry.Boot words next fit safe e = given (record draft { booted = true }) next IsFit (boot_fit draft fit) e
 entry_fit draft entry.Upload words next fit safe e = bound (upload draft.plans (word 3 words)) _ next (IsFit next) e (λ input found made.
     let may = upload-ok draft (word 3 words) input fit safe.1 found in
-    input_fit draft (Link 0, input) next fit (record { flight = safe.0; listed = may.0; actor = omega arith; quiet = inl (may.1 (Link 0)) }) made)
-entry_fit draft entry.LinkWait words next fit safe e = input_fit draft (Link 0, Wait) next fit (record { flight = safe; listed = tt; actor = omega arith; quiet = inl tt }) e
+    input_fit draft (Link 0, input) next fit (record { flight = safe.0; listed = may.0; actor = omega arith; no_event = inl (may.1 (Link 0)) }) made)
+entry_fit draft entry.LinkWait words next fit safe e = input_fit draft (Link 0, Wait) next fit (record { flight = safe; listed = tt; actor = omega arith; no_event = inl tt }) e
 entry_fit draft entry.LinkMeet words next fit safe e = bound (meeting 4 words) _ next (IsFit next) e (λ input found made.
     let may = meeting-ok 4 words input found in
-    input_fit draft (Link 0, input) next fit (record { flight = safe; listed = may.0; actor = omega arith; quiet = inl (may.2 (Link 0)) }) made)
-entry_fit draft entry.NavWait words next fit safe e = input_fit draft (Nav, Wait) next fit (record { flight = safe; listed = tt; actor = tt; quiet = inl tt }) e
+    input_fit draft (Link 0, input) next fit (record { flight = safe; listed = may.0; actor = omega arith; no_event = inl (may.2 (Link 0)) }) made)
+entry_fit draft entry.NavWait words next fit safe e = input_fit draft (Nav, Wait) next fit (record { flight = safe; listed = tt; actor = tt; no_event = inl tt }) e
 entry_fit draft entry.NavMeet words next fit safe e = bound (meeting 3 words) _ next (IsFit next) e (λ input found made.
     let may = meeting-ok 3 words input found in
-    input_fit draft (Nav, input) next fit (record { flight = safe; listed = may.1; actor = tt; quiet = inl (may.2 Nav) }) made)
-entry_fit draft (entry.Event event) words next fit safe e = input_fit draft (Nav, Vehicle event) next fit (record { flight = safe.0; listed = safe.2; actor = tt; quiet = inr (calm_params draft fit safe.1) }) e
+    input_fit draft (Nav, input) next fit (record { flight = safe; listed = may.1; actor = tt; no_event = inl (may.2 Nav) }) made)
+entry_fit draft (entry.Event event) words next fit safe e = input_fit draft (Nav, Vehicle event) next fit (record { flight = safe.0; listed = safe.2; actor = tt; no_event = inr (event_params draft fit safe.1) }) e
 entry_fit draft entry.Turns words next fit safe e = turns_fit draft (drop 1 words) next fit e
 
 measure_fit : (draft : Draft) (m : Measure) (words : List (List ℕ)) (next : Draft) → IsFit draft → draft.booted ≡ false → Measures draft m words next → IsFit next

@@ -14,7 +14,7 @@ use Rattle.run_script.specs.declared.draft.Draft.{Draft}
 use Rattle.run_script.specs.Words.{word, is_same}
 use Rattle.run_script.specs.Numbers.{is_within}
 use Rattle.run_script.specs.Actors.{is_actor, actor_of}
-use Rattle.run_script.specs.Forms.{param_form, kind_of, plan_of, plan_form, is_tear, boot_form, link_size, is_strange_link, is_built, names_rich, is_later_link, link_entry, link_form, nav_size, is_strange_nav, is_calm, is_later_nav, nav_entry, nav_form, watch_form, turns_form, head_form, flight_form, form_of}
+use Rattle.run_script.specs.Forms.{param_form, kind_of, plan_of, plan_form, is_tear, boot_form, link_size, is_unlisted_link, is_built, names_unplain, is_later_link, link_entry, link_form, nav_size, is_unlisted_nav, are_events_built, is_later_nav, nav_entry, nav_form, watch_form, turns_form, head_form, flight_form, form_of}
 use Rattle.run_script.specs.Flyable.{IsPlainEvent}
 use Rattle.run_script.proofs.Choosing.{choose, given, refused, sized_gives, unlisted_never}
 
@@ -23,8 +23,8 @@ abbrev pub IsSafeEntry : Draft → List (List ℕ) → Entry → Type 0
 IsSafeEntry draft words entry.Landing = draft.booted ≡ false
 IsSafeEntry draft words entry.Return = draft.booted ≡ false
 IsSafeEntry draft words entry.Boot = ⊤
-IsSafeEntry draft words entry.Upload = (draft.booted ≡ true) × (names_rich draft.plans draft.plain (word 3 words) ≡ false)
-IsSafeEntry draft words (entry.Event event) = (draft.booted ≡ true) × (is_calm draft ≡ true) × IsPlainEvent event
+IsSafeEntry draft words entry.Upload = (draft.booted ≡ true) × (names_unplain draft.plans draft.plain (word 3 words) ≡ false)
+IsSafeEntry draft words (entry.Event event) = (draft.booted ≡ true) × (are_events_built draft ≡ true) × IsPlainEvent event
 IsSafeEntry draft words entry.LinkWait = draft.booted ≡ true
 IsSafeEntry draft words entry.LinkMeet = draft.booted ≡ true
 IsSafeEntry draft words entry.NavWait = draft.booted ≡ true
@@ -37,20 +37,20 @@ IsSafe draft words (form.Measure _) = draft.booted ≡ false
 IsSafe draft words (form.Plan _ _) = draft.booted ≡ false
 IsSafe draft words (form.Entry entry) = IsSafeEntry draft words entry
 
-not_rich : (other zero plain up rich : Bool) → other || (zero && (plain || (up && rich))) ≡ false → zero ≡ true → up ≡ true → rich ≡ false
-not_rich true zero plain up rich e z u = absurd cc
-not_rich false false plain up rich e z u = absurd cc
-not_rich false true true up rich e z u = absurd cc
-not_rich false true false false rich e z u = absurd cc
-not_rich false true false true rich e z u = e
+plain_upload : (other zero later up unplain : Bool) → other || (zero && (later || (up && unplain))) ≡ false → zero ≡ true → up ≡ true → unplain ≡ false
+plain_upload true zero later up unplain e z u = absurd cc
+plain_upload false false later up unplain e z u = absurd cc
+plain_upload false true true up unplain e z u = absurd cc
+plain_upload false true false false unplain e z u = absurd cc
+plain_upload false true false true unplain e z u = e
 
-calm_of : (position back calm wait meet : Bool) → position || (back || (not calm && not (wait || meet))) ≡ false → wait ≡ false → meet ≡ false → calm ≡ true
-calm_of true back calm wait meet e w m = absurd cc
-calm_of false true calm wait meet e w m = absurd cc
-calm_of false false true wait meet e w m = refl
-calm_of false false false true meet e w m = absurd cc
-calm_of false false false false true e w m = absurd cc
-calm_of false false false false false e w m = absurd cc
+events_built_of : (position back built wait meet : Bool) → position || (back || (not built && not (wait || meet))) ≡ false → wait ≡ false → meet ≡ false → built ≡ true
+events_built_of true back built wait meet e w m = absurd cc
+events_built_of false true built wait meet e w m = absurd cc
+events_built_of false false true wait meet e w m = refl
+events_built_of false false false true meet e w m = absurd cc
+events_built_of false false false false true e w m = absurd cc
+events_built_of false false false false false e w m = absurd cc
 
 module _ (draft : Draft) (words : List (List ℕ)) where
   abbrev Safe : Form → Type 0
@@ -93,7 +93,7 @@ module _ (draft : Draft) (words : List (List ℕ)) where
       choose (nat_le (length words) 3 || is_tear (word 3 words)) _ _ f (Safe f) r (λ b r. refused _ f (Safe f) r) (λ b r. refused _ f (Safe f) r)) (λ b r. refused _ f (Safe f) r))
 
   module _ (flight : draft.booted ≡ true) where
-    entry_by : (up meet : Bool) → (up ≡ true → names_rich draft.plans draft.plain (word 3 words) ≡ false) → IsSafeEntry draft words (cond up entry.Upload (cond meet entry.LinkMeet entry.LinkWait))
+    entry_by : (up meet : Bool) → (up ≡ true → names_unplain draft.plans draft.plain (word 3 words) ≡ false) → IsSafeEntry draft words (cond up entry.Upload (cond meet entry.LinkMeet entry.LinkWait))
     entry_by true meet plain = (flight, plain refl)
     entry_by false true plain = flight
     entry_by false false plain = flight
@@ -101,37 +101,37 @@ module _ (draft : Draft) (words : List (List ℕ)) where
     link_entry_safe : is_later_link draft words ≡ false → is_within 0 0 (word 1 words) ≡ true → IsSafeEntry draft words (link_entry (word 2 words))
     unfolding link_entry is_later_link
     link_entry_safe later zero = entry_by (is_same (word 2 words) (codes "upload")) (is_same (word 2 words) (codes "meet")) (λ up.
-        not_rich (is_within 1 7 (word 1 words)) (is_within 0 0 (word 1 words)) (nat_lt 0 (link_size (word 2 words)) && not (is_built (word 2 words))) (is_same (word 2 words) (codes "upload")) (names_rich draft.plans draft.plain (word 3 words)) later zero up)
+        plain_upload (is_within 1 7 (word 1 words)) (is_within 0 0 (word 1 words)) (nat_lt 0 (link_size (word 2 words)) && not (is_built (word 2 words))) (is_same (word 2 words) (codes "upload")) (names_unplain draft.plans draft.plain (word 3 words)) later zero up)
 
     link_safe : (f : Form) → link_form draft words ≡ Ok f → Safe f
     unfolding link_form
     link_safe f e =
-        choose (is_strange_link words) _ _ f (Safe f) e (λ b r. refused _ f (Safe f) r) (λ b r.
+        choose (is_unlisted_link words) _ _ f (Safe f) e (λ b r. refused _ f (Safe f) r) (λ b r.
         choose (is_later_link draft words) _ _ f (Safe f) r (λ b r. refused _ f (Safe f) r) (λ later r.
         choose (not (length words == link_size (word 2 words))) _ _ f (Safe f) r (λ b r. refused _ f (Safe f) r) (λ b r.
         choose (is_within 0 0 (word 1 words)) _ _ f (Safe f) r (λ zero r. given (form.Entry (link_entry (word 2 words))) f Safe (link_entry_safe later zero) r) (λ b r. refused _ f (Safe f) r))))
 
-    nav_by : (wait meet tick go reached hold : Bool) → (wait ≡ false → meet ≡ false → is_calm draft ≡ true)
+    nav_by : (wait meet tick go reached hold : Bool) → (wait ≡ false → meet ≡ false → are_events_built draft ≡ true)
         → IsSafeEntry draft words (cond wait entry.NavWait (cond meet entry.NavMeet (cond tick (entry.Event Tick) (cond go (entry.Event Go) (cond reached (entry.Event Reached) (cond hold (entry.Event (Mode mode.Hold)) (entry.Event (Mode mode.Mission))))))))
-    nav_by true meet tick go reached hold calm = flight
-    nav_by false true tick go reached hold calm = flight
-    nav_by false false true go reached hold calm = (flight, calm refl refl, tt)
-    nav_by false false false true reached hold calm = (flight, calm refl refl, tt)
-    nav_by false false false false true hold calm = (flight, calm refl refl, tt)
-    nav_by false false false false false true calm = (flight, calm refl refl, tt)
-    nav_by false false false false false false calm = (flight, calm refl refl, tt)
+    nav_by true meet tick go reached hold built = flight
+    nav_by false true tick go reached hold built = flight
+    nav_by false false true go reached hold built = (flight, built refl refl, tt)
+    nav_by false false false true reached hold built = (flight, built refl refl, tt)
+    nav_by false false false false true hold built = (flight, built refl refl, tt)
+    nav_by false false false false false true built = (flight, built refl refl, tt)
+    nav_by false false false false false false built = (flight, built refl refl, tt)
 
-    nav_entry_safe : is_later_nav (is_calm draft) words ≡ false → IsSafeEntry draft words (nav_entry words)
+    nav_entry_safe : is_later_nav (are_events_built draft) words ≡ false → IsSafeEntry draft words (nav_entry words)
     unfolding nav_entry is_later_nav
     nav_entry_safe later = nav_by (is_same (word 1 words) (codes "wait")) (is_same (word 1 words) (codes "meet")) (is_same (word 1 words) (codes "tick")) (is_same (word 1 words) (codes "go")) (is_same (word 1 words) (codes "reached")) (is_same (word 2 words) (codes "hold")) (λ w m.
-        calm_of (is_same (word 1 words) (codes "position")) (is_same (word 1 words) (codes "mode") && is_same (word 2 words) (codes "return")) (is_calm draft) (is_same (word 1 words) (codes "wait")) (is_same (word 1 words) (codes "meet")) later w m)
+        events_built_of (is_same (word 1 words) (codes "position")) (is_same (word 1 words) (codes "mode") && is_same (word 2 words) (codes "return")) (are_events_built draft) (is_same (word 1 words) (codes "wait")) (is_same (word 1 words) (codes "meet")) later w m)
 
-    nav_safe : (f : Form) → nav_form (is_calm draft) words ≡ Ok f → Safe f
+    nav_safe : (f : Form) → nav_form (are_events_built draft) words ≡ Ok f → Safe f
     unfolding nav_form
     nav_safe f e =
         choose (nat_le (length words) 1) _ _ f (Safe f) e (λ b r. refused _ f (Safe f) r) (λ b r.
-        choose (is_strange_nav words) _ _ f (Safe f) r (λ b r. refused _ f (Safe f) r) (λ b r.
-        choose (is_later_nav (is_calm draft) words) _ _ f (Safe f) r (λ b r. refused _ f (Safe f) r) (λ later r.
+        choose (is_unlisted_nav words) _ _ f (Safe f) r (λ b r. refused _ f (Safe f) r) (λ b r.
+        choose (is_later_nav (are_events_built draft) words) _ _ f (Safe f) r (λ b r. refused _ f (Safe f) r) (λ later r.
         choose (length words == nav_size (word 1 words)) _ _ f (Safe f) r (λ b r. given (form.Entry (nav_entry words)) f Safe (nav_entry_safe later) r) (λ b r. refused _ f (Safe f) r))))
 
     watch_safe : (f : Form) → watch_form words ≡ Ok f → Safe f

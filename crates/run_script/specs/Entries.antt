@@ -16,6 +16,7 @@ use Rattle.run_script.specs.Words.{word, is_same}
 use Rattle.run_script.specs.Numbers.{whole_within}
 use Rattle.run_script.specs.Actors.{actor_of}
 use Rattle.run_script.specs.Reads.{◌>>=◌, or_fault}
+use Rattle.run_script.specs.Uploads.{is_upload}
 
 -- no parameter is set
 abbrev pub no_params : Params
@@ -49,11 +50,6 @@ plan_named (plan ∷ plans) name = if is_same plan.name name then Some plan else
 unfoldable pub upload : List NamedPlan → List ℕ → Result InputLine ScriptFault
 upload plans name = or_fault fault.Name (option_map (λ (plan : NamedPlan). Upload plan.kind plan.items) (plan_named plans name))
 
--- whether an input is a whole upload
-abbrev pub is_upload : Actor × InputLine → Bool
-is_upload (_, Upload _ _) = true
-is_upload (_, _) = false
-
 -- whether the limits of the schedule let one more input in
 unfoldable pub has_room : List (Actor × InputLine) → Actor × InputLine → Bool
 has_room inputs input = nat_lt (length inputs) MAX_SCHEDULE_LINES && (not (is_upload input) || nat_lt (count_by is_upload inputs) MAX_UPLOAD_LINES)
@@ -78,27 +74,31 @@ with_turns draft names =
     if nat_le (length draft.turns + length names) MAX_TURN_WORDS then Ok (record draft { turns = draft.turns ++ actors_of names })
     else Err fault.TooMany
 
--- what the lines up to this one state
+-- with the choice among takeoff and landing that a mission must have
 abbrev pub after_landing : Draft → List (List ℕ) → Result Draft ScriptFault
 after_landing draft words = do
   choice ← number_in 3 0 4 words
   Ok (with_params draft (record draft.params { tko_land = choice }))
 
+-- with the choice where a return goes
 abbrev pub after_return : Draft → List (List ℕ) → Result Draft ScriptFault
 after_return draft words = do
   choice ← number_in 3 0 2 words
   Ok (with_params draft (record draft.params { rtl_type = choice }))
 
+-- with the upload of a plan as the next input of link 0
 abbrev pub after_upload : Draft → List (List ℕ) → Result Draft ScriptFault
 after_upload draft words = do
   input ← upload draft.plans (word 3 words)
   with_input draft (Link 0, input)
 
+-- with a meeting as the next input of an actor, whose place stands in this field
 abbrev pub after_meeting : Actor → ℕ → Draft → List (List ℕ) → Result Draft ScriptFault
 after_meeting actor field draft words = do
   input ← meeting field words
   with_input draft (actor, input)
 
+-- what the lines up to this one state, of which this is an entry
 unfoldable pub after_entry : Draft → Entry → List (List ℕ) → Result Draft ScriptFault
 after_entry draft entry.Landing words = after_landing draft words
 after_entry draft entry.Return words = after_return draft words

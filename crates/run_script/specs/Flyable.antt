@@ -11,7 +11,8 @@ use Rattle.mission_model.specs.declared.vehicle.Mode.TheVariants as mode
 use Rattle.mission_model.specs.declared.vehicle.VehicleLine.{VehicleLine}
 use Rattle.mission_model.specs.declared.vehicle.VehicleLine.TheVariants.{Tick, Go, Reached, Mode}
 use Rattle.run_script.specs.Plain.{IsPlain}
-use Rattle.run_script.specs.Entries.{is_upload, no_params}
+use Rattle.run_script.specs.Entries.{no_params}
+use Rattle.run_script.specs.Uploads.{is_upload}
 
 -- an event that asks for neither a return nor a position
 abbrev pub IsPlainEvent : VehicleLine → Type 0
@@ -43,9 +44,9 @@ IsListed (Nav, input) = IsNavInput input
 IsListed (_, _) = ⊥
 
 -- an input that is no event of the vehicle
-abbrev pub IsQuiet : Actor × InputLine → Type 0
-IsQuiet (_, Vehicle _) = ⊥
-IsQuiet (_, _) = ⊤
+abbrev pub IsNoEvent : Actor × InputLine → Type 0
+IsNoEvent (_, Vehicle _) = ⊥
+IsNoEvent (_, _) = ⊤
 
 -- an actor of a run with so many links and no watcher
 abbrev pub IsOfRun : ℕ → Actor → Type 0
@@ -65,7 +66,7 @@ pub record IsFlyableBoot (boot : BootScript) : Type 0 where
   pub schedule : length boot.inputs ≤ MAX_SCHEDULE_LINES
   pub uploads : count_by is_upload boot.inputs ≤ MAX_UPLOAD_LINES
   pub turn_words : length boot.turns ≤ MAX_TURN_WORDS
-  pub events : All IsQuiet boot.inputs ⊎ (boot.params ≡ no_params)
+  pub events : All IsNoEvent boot.inputs ⊎ (boot.params ≡ no_params)
 
 -- the boots are one, and it is flyable
 abbrev pub AreFlyable : List BootScript → Type 0

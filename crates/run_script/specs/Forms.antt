@@ -80,8 +80,8 @@ unfoldable pub is_type : List ℕ → Bool
 is_type name = is_same name (codes "mission") || is_same name (codes "fence") || is_same name (codes "safe") || is_same name (codes "all")
 
 -- whether an input of a link, or the type in it, is there and not listed
-unfoldable pub is_strange_link : List (List ℕ) → Bool
-is_strange_link words =
+unfoldable pub is_unlisted_link : List (List ℕ) → Bool
+is_unlisted_link words =
     (nat_lt 2 (length words) && link_size (word 2 words) == 0)
     || (nat_lt 3 (length words) && (is_same (word 2 words) (codes "count") || is_same (word 2 words) (codes "clear")) && not (is_type (word 3 words)))
 
@@ -90,16 +90,16 @@ unfoldable pub is_built : List ℕ → Bool
 is_built input = is_same input (codes "wait") || is_same input (codes "meet") || is_same input (codes "upload")
 
 -- whether a name is that of a plan that is not plain
-unfoldable pub names_rich : List NamedPlan → List Bool → List ℕ → Bool
-names_rich (plan ∷ plans) (plain ∷ more) name = if is_same plan.name name then not plain else names_rich plans more name
-names_rich _ _ name = false
+unfoldable pub names_unplain : List NamedPlan → List Bool → List ℕ → Bool
+names_unplain (plan ∷ plans) (plain ∷ more) name = if is_same plan.name name then not plain else names_unplain plans more name
+names_unplain _ _ name = false
 
 -- whether a line of a link is built later: another link than link 0, another input, the upload of a plan that is not plain
 unfoldable pub is_later_link : Draft → List (List ℕ) → Bool
 is_later_link draft words =
     is_within 1 7 (word 1 words)
     || (is_within 0 0 (word 1 words) && ((nat_lt 0 (link_size (word 2 words)) && not (is_built (word 2 words)))
-    || (is_same (word 2 words) (codes "upload") && names_rich draft.plans draft.plain (word 3 words))))
+    || (is_same (word 2 words) (codes "upload") && names_unplain draft.plans draft.plain (word 3 words))))
 
 -- the entry of an input that is built
 unfoldable pub link_entry : List ℕ → Entry
@@ -111,7 +111,7 @@ link_entry input =
 -- `link L INPUT`
 unfoldable pub link_form : Draft → List (List ℕ) → Result Form ScriptFault
 link_form draft words =
-    if is_strange_link words then Err fault.Unknown
+    if is_unlisted_link words then Err fault.Unknown
     else (if is_later_link draft words then Err fault.NotYet
     else (if not (length words == link_size (word 2 words)) then Err fault.Words
     else (if is_within 0 0 (word 1 words) then Ok (form.Entry (link_entry (word 2 words)))
@@ -130,20 +130,20 @@ unfoldable pub is_mode : List ℕ → Bool
 is_mode name = is_same name (codes "hold") || is_same name (codes "mission") || is_same name (codes "return")
 
 -- whether an input of the Navigator, or the mode that stands in it, is not listed
-unfoldable pub is_strange_nav : List (List ℕ) → Bool
-is_strange_nav words =
+unfoldable pub is_unlisted_nav : List (List ℕ) → Bool
+is_unlisted_nav words =
     (nav_size (word 1 words) == 0) || (nat_lt 2 (length words) && is_same (word 1 words) (codes "mode") && not (is_mode (word 2 words)))
 
--- whether a script has no `param` and only plain plans so far
-abbrev pub is_calm : Draft → Bool
-is_calm draft = not draft.has_param && list_all (λ plain. plain) draft.plain
+-- whether events are built for what is stated so far: no `param`, and plain plans only
+abbrev pub are_events_built : Draft → Bool
+are_events_built draft = not draft.has_param && list_all (λ plain. plain) draft.plain
 
--- whether a line of the Navigator is built later: returns and positions, and every event in a script that is not calm
+-- whether a line of the Navigator is built later: returns and positions, and every event where events are not built
 unfoldable pub is_later_nav : Bool → List (List ℕ) → Bool
-is_later_nav calm words =
+is_later_nav events_built words =
     is_same (word 1 words) (codes "position")
     || ((is_same (word 1 words) (codes "mode") && is_same (word 2 words) (codes "return"))
-    || (not calm && not (is_same (word 1 words) (codes "wait") || is_same (word 1 words) (codes "meet"))))
+    || (not events_built && not (is_same (word 1 words) (codes "wait") || is_same (word 1 words) (codes "meet"))))
 
 -- the entry of an input that is built
 unfoldable pub nav_entry : List (List ℕ) → Entry
@@ -158,10 +158,10 @@ nav_entry words =
 
 -- `nav INPUT`
 unfoldable pub nav_form : Bool → List (List ℕ) → Result Form ScriptFault
-nav_form calm words =
+nav_form events_built words =
     if nat_le (length words) 1 then Err fault.Words
-    else (if is_strange_nav words then Err fault.Unknown
-    else (if is_later_nav calm words then Err fault.NotYet
+    else (if is_unlisted_nav words then Err fault.Unknown
+    else (if is_later_nav events_built words then Err fault.NotYet
     else (if length words == nav_size (word 1 words) then Ok (form.Entry (nav_entry words))
     else Err fault.Words)))
 
@@ -189,7 +189,7 @@ head_form words =
 unfoldable pub flight_form : Draft → List (List ℕ) → Result Form ScriptFault
 flight_form draft words =
     if is_same (word 0 words) (codes "link") then link_form draft words
-    else (if is_same (word 0 words) (codes "nav") then nav_form (is_calm draft) words
+    else (if is_same (word 0 words) (codes "nav") then nav_form (are_events_built draft) words
     else (if is_same (word 0 words) (codes "watch") then watch_form words
     else (if is_same (word 0 words) (codes "turns") then turns_form words
     else Err fault.Unknown)))

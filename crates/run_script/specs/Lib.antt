@@ -4,6 +4,7 @@ pub mod Reads
 pub mod Actors
 pub mod Forms
 pub mod Plain
+pub mod Uploads
 pub mod Entries
 pub mod Measures
 pub mod Plans

@@ -2,7 +2,8 @@
 
 ghost use Rattle.std.specs.Prelude.{◌≡◌};
 
-use mission_model::{Home, Inputs, Params, Plans, Turns};
+use crate::schedule::Schedule;
+use mission_model::{Home, Params, Plans, Turns};
 use std::marker::Model;
 
 /// One flag for each plan.
@@ -51,6 +52,6 @@ pub struct Draft {
     pub has_param: bool,
     /// Whether the boot has begun.
     pub booted: bool,
-    pub inputs: Inputs,
+    pub inputs: Schedule,
     pub turns: Turns,
 }

@@ -5,16 +5,17 @@ ghost use Rattle.nav_text.specs.Words.{words_in};
 ghost use Rattle.run_script.specs.Words.{word};
 ghost use Rattle.run_script.specs.Actors.{actor_of};
 ghost use Rattle.run_script.specs.Reads.{Gives};
-ghost use Rattle.run_script.specs.Entries.{with_params, meeting, plan_named, upload, is_upload, has_room, with_input, actors_more, actors_of, with_turns, after_landing, after_return, after_upload, after_meeting, after_entry};
+ghost use Rattle.run_script.specs.Entries.{with_params, meeting, plan_named, upload, has_room, with_input, actors_more, actors_of, with_turns, after_landing, after_return, after_upload, after_meeting, after_entry};
 
 use crate::actors::{actor_of, behind_first};
 use crate::draft::Draft;
 use crate::fault::{ScriptFault, Stop};
 use crate::form::Entry;
 use crate::numbers::number_in;
+use crate::schedule::{Schedule, is_upload};
 use crate::words::{count_words, next_word, word};
 use mission_model::limits::{MAX_PLACES, MAX_SCHEDULE_LINES, MAX_TURN_WORDS, MAX_UPLOAD_LINES};
-use mission_model::{Actor, InputLine, Inputs, Items, NamedPlan, Params, Turns};
+use mission_model::{Actor, InputLine, Items, NamedPlan, Params, Turns};
 use std::alloc::{AllocError, Global};
 
 /// The draft with other parameters.
@@ -75,35 +76,25 @@ fn upload(alloc: Global, plans: &[NamedPlan], name: &[u8]) -> Result<InputLine, 
     }
 }
 
-fn is_upload(input: &(Actor, InputLine)) -> bool
-    ensures { result ≡ is_upload input.now }
-{
-    matches!(input.1, InputLine::Upload { .. })
-}
-
 /// Whether the limits of the schedule let one more input in.
 #[tactic(auto, unfolding(crate::specs::Entries::has_room))]
-fn has_room(inputs: &[(Actor, InputLine)], input: &(Actor, InputLine)) -> bool
+fn has_room(inputs: &Schedule, input: &(Actor, InputLine)) -> bool
     ensures { result ≡ has_room inputs.now input.now }
 {
-    inputs.len() < MAX_SCHEDULE_LINES
-        && (!is_upload(input)
-            || inputs.iter().filter(|one| is_upload(one)).count() < MAX_UPLOAD_LINES)
+    inputs.as_slice().len() < MAX_SCHEDULE_LINES
+        && (!is_upload(input) || inputs.uploads() < MAX_UPLOAD_LINES)
 }
 
 #[tactic(auto, unfolding(crate::specs::Entries::with_input))]
 fn with_input(draft: Draft, input: (Actor, InputLine)) -> Result<Draft, Stop>
     ensures { Gives result (with_input draft input) }
 {
-    if !has_room(draft.inputs.as_slice(), &input) {
+    if !has_room(&draft.inputs, &input) {
         return Err(Stop::Fault(ScriptFault::TooMany));
     }
-    let mut inputs = draft.inputs.into_vec();
+    let mut inputs = draft.inputs;
     inputs.push(input)?;
-    Ok(Draft {
-        inputs: Inputs::from_vec(inputs),
-        ..draft
-    })
+    Ok(Draft { inputs, ..draft })
 }
 
 /// Appends the actor of a name.

@@ -5,7 +5,7 @@ ghost use Rattle.std.specs.List.{list_all};
 ghost use Rattle.nav_text.specs.Words.{words_in};
 ghost use Rattle.run_script.specs.Reads.{Gives};
 ghost use Rattle.run_script.specs.Words.{word};
-ghost use Rattle.run_script.specs.Forms.{link_size, is_type, is_strange_link, is_built, names_rich, is_later_link, link_entry, link_form, nav_size, is_mode, is_strange_nav, is_calm, is_later_nav, nav_entry, nav_form, watch_form, turns_form, flight_form};
+ghost use Rattle.run_script.specs.Forms.{link_size, is_type, is_unlisted_link, is_built, names_unplain, is_later_link, link_entry, link_form, nav_size, is_mode, is_unlisted_nav, are_events_built, is_later_nav, nav_entry, nav_form, watch_form, turns_form, flight_form};
 
 use crate::actors::{are_actors, are_built_actors, behind_first};
 use crate::draft::Draft;
@@ -49,9 +49,9 @@ fn is_type(name: &[u8]) -> bool
         || name == b"all".as_slice()
 }
 
-#[tactic(auto, unfolding(crate::specs::Forms::is_strange_link))]
-fn is_strange_link(line: &[u8]) -> bool
-    ensures { result ≡ is_strange_link (words_in line.now) }
+#[tactic(auto, unfolding(crate::specs::Forms::is_unlisted_link))]
+fn is_unlisted_link(line: &[u8]) -> bool
+    ensures { result ≡ is_unlisted_link (words_in line.now) }
 {
     let count = count_words(line);
     let unlisted = count > 2 && link_size(word(2, line)) == 0;
@@ -67,9 +67,9 @@ fn is_built(input: &[u8]) -> bool
 }
 
 /// Whether a name is that of a plan that is not plain.
-#[tactic(auto, unfolding(crate::specs::Forms::names_rich))]
-fn names_rich(plans: &[NamedPlan], plain: &[bool], name: &[u8]) -> bool
-    ensures { result ≡ names_rich plans.now plain.now name.now }
+#[tactic(auto, unfolding(crate::specs::Forms::names_unplain))]
+fn names_unplain(plans: &[NamedPlan], plain: &[bool], name: &[u8]) -> bool
+    ensures { result ≡ names_unplain plans.now plain.now name.now }
 {
     match plans {
         [plan, more @ ..] => match plain {
@@ -77,7 +77,7 @@ fn names_rich(plans: &[NamedPlan], plain: &[bool], name: &[u8]) -> bool
                 if plan.name.as_slice() == name {
                     !*flag
                 } else {
-                    names_rich(more, flags, name)
+                    names_unplain(more, flags, name)
                 }
             }
             [] => false,
@@ -91,9 +91,10 @@ fn is_later_link(draft: &Draft, line: &[u8]) -> bool
     ensures { result ≡ is_later_link draft.now (words_in line.now) }
 {
     let plans = draft.plans.as_slice();
-    let rich = is(2, line, b"upload") && names_rich(plans, draft.plain.as_slice(), word(3, line));
+    let unplain = is(2, line, b"upload")
+        && names_unplain(plans, draft.plain.as_slice(), word(3, line));
     let later = link_size(word(2, line)) > 0 && !is_built(word(2, line));
-    is_within(1, 7, word(1, line)) || (is_within(0, 0, word(1, line)) && (later || rich))
+    is_within(1, 7, word(1, line)) || (is_within(0, 0, word(1, line)) && (later || unplain))
 }
 
 #[tactic(auto, unfolding(crate::specs::Forms::link_entry))]
@@ -113,7 +114,7 @@ fn link_entry(input: &[u8]) -> Entry
 fn link_form(draft: &Draft, line: &[u8]) -> Result<Form, Stop>
     ensures { Gives result (link_form draft.now (words_in line.now)) }
 {
-    if is_strange_link(line) {
+    if is_unlisted_link(line) {
         unknown()
     } else if is_later_link(draft, line) {
         not_yet()
@@ -152,12 +153,12 @@ fn is_mode(name: &[u8]) -> bool
     name == b"hold".as_slice() || name == b"mission".as_slice() || name == b"return".as_slice()
 }
 
-#[tactic(auto, unfolding(crate::specs::Forms::is_strange_nav))]
-fn is_strange_nav(line: &[u8]) -> bool
-    ensures { result ≡ is_strange_nav (words_in line.now) }
+#[tactic(auto, unfolding(crate::specs::Forms::is_unlisted_nav))]
+fn is_unlisted_nav(line: &[u8]) -> bool
+    ensures { result ≡ is_unlisted_nav (words_in line.now) }
 {
-    let strange_mode = count_words(line) > 2 && is(1, line, b"mode") && !is_mode(word(2, line));
-    nav_size(word(1, line)) == 0 || strange_mode
+    let unlisted_mode = count_words(line) > 2 && is(1, line, b"mode") && !is_mode(word(2, line));
+    nav_size(word(1, line)) == 0 || unlisted_mode
 }
 
 fn are_plain(plain: &[bool]) -> bool
@@ -166,20 +167,20 @@ fn are_plain(plain: &[bool]) -> bool
     plain.iter().all(|plain| *plain)
 }
 
-/// Whether no parameter is set and all plans are plain.
-fn is_calm(draft: &Draft) -> bool
-    ensures { result ≡ is_calm draft.now }
+/// Whether events are built for what is stated: no parameter is set and all plans are plain.
+fn are_events_built(draft: &Draft) -> bool
+    ensures { result ≡ are_events_built draft.now }
 {
     !draft.has_param && are_plain(draft.plain.as_slice())
 }
 
 #[tactic(auto, unfolding(crate::specs::Forms::is_later_nav))]
-fn is_later_nav(calm: bool, line: &[u8]) -> bool
-    ensures { result ≡ is_later_nav calm (words_in line.now) }
+fn is_later_nav(events_built: bool, line: &[u8]) -> bool
+    ensures { result ≡ is_later_nav events_built (words_in line.now) }
 {
     let turns_back = is(1, line, b"mode") && is(2, line, b"return");
-    let quiet = is(1, line, b"wait") || is(1, line, b"meet");
-    is(1, line, b"position") || turns_back || (!calm && !quiet)
+    let no_event = is(1, line, b"wait") || is(1, line, b"meet");
+    is(1, line, b"position") || turns_back || (!events_built && !no_event)
 }
 
 #[tactic(auto, unfolding(crate::specs::Forms::nav_entry))]
@@ -204,14 +205,14 @@ fn nav_entry(line: &[u8]) -> Entry
 }
 
 #[tactic(auto, unfolding(crate::specs::Forms::nav_form))]
-fn nav_form(calm: bool, line: &[u8]) -> Result<Form, Stop>
-    ensures { Gives result (nav_form calm (words_in line.now)) }
+fn nav_form(events_built: bool, line: &[u8]) -> Result<Form, Stop>
+    ensures { Gives result (nav_form events_built (words_in line.now)) }
 {
     if count_words(line) <= 1 {
         Err(Stop::Fault(ScriptFault::Words))
-    } else if is_strange_nav(line) {
+    } else if is_unlisted_nav(line) {
         unknown()
-    } else if is_later_nav(calm, line) {
+    } else if is_later_nav(events_built, line) {
         not_yet()
     } else if count_words(line) == nav_size(word(1, line)) {
         Ok(Form::Entry(nav_entry(line)))
@@ -255,7 +256,7 @@ pub(crate) fn flight_form(draft: &Draft, line: &[u8]) -> Result<Form, Stop>
     if is(0, line, b"link") {
         link_form(draft, line)
     } else if is(0, line, b"nav") {
-        nav_form(is_calm(draft), line)
+        nav_form(are_events_built(draft), line)
     } else if is(0, line, b"watch") {
         watch_form(line)
     } else if is(0, line, b"turns") {

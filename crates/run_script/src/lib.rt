@@ -14,6 +14,7 @@ mod numbers;
 mod place;
 mod plans;
 mod read;
+mod schedule;
 mod select;
 #[cfg(test)]
 mod tests;

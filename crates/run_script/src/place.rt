@@ -16,9 +16,10 @@ use crate::fault::{ScriptFault, Stop};
 use crate::form::Form;
 use crate::measures::after_measure;
 use crate::plans::{fill, new_name, plan_text};
+use crate::schedule::Schedule;
 use crate::select::form_of;
 use crate::words::{is_skipped, says, word};
-use mission_model::{Inputs, Params, PlanType, Plans, Turns};
+use mission_model::{Params, PlanType, Plans, Turns};
 use nav_text::Span;
 use std::alloc::Global;
 
@@ -48,7 +49,7 @@ fn empty_draft(alloc: Global) -> Draft
         plain: Flags::from_vec(Vec::new(alloc)),
         has_param: false,
         booted: false,
-        inputs: Inputs::from_vec(Vec::new(alloc)),
+        inputs: Schedule::new(alloc),
         turns: Turns::from_vec(Vec::new(alloc)),
     }
 }

@@ -13,7 +13,7 @@ use crate::bounds::MAX_SCRIPT_BYTES;
 use crate::draft::{Draft, Flags};
 use crate::entries::plan_named;
 use crate::fault::{ScriptFault, Stop};
-use crate::words::says;
+use crate::words::{bytes_of, says};
 use mission_model::command::{FRAME_GLOBAL, NAV_WAYPOINT};
 use mission_model::limits::{MAX_NAME_BYTES, MAX_PLANS};
 use mission_model::{Item, Items, Name, NamedPlan, PlanType, Plans, check_plan};
@@ -51,14 +51,6 @@ pub(crate) fn new_name(alloc: Global, plans: &[NamedPlan], name: &[u8]) -> Resul
         return Err(Stop::Fault(ScriptFault::TooMany));
     }
     Ok(Name::from_vec(Vec::from_slice(alloc, name)?))
-}
-
-/// The bytes of a line.
-fn bytes_of(text: &[u8], line: Span) -> &[u8]
-    requires { IsInside text.now line }
-    ensures { result.now ≡ text_of text.now line }
-{
-    &text[line.from as usize..line.to as usize]
 }
 
 /// Whether a line ends a plan.

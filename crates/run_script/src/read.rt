@@ -15,6 +15,7 @@ use crate::bounds::MAX_SCRIPT_BYTES;
 use crate::draft::Draft;
 use crate::fault::{ScriptFault, Stop};
 use crate::place::{Place, after};
+use crate::words::bytes_of;
 use mission_model::{Actor, BootScript, Boots, InputLine, Script};
 use nav_text::{Span, TextFault, split_lines};
 use std::alloc::Global;
@@ -57,7 +58,7 @@ fn script_of(alloc: Global, draft: Draft) -> Result<Script, Stop>
     let boot = BootScript {
         cut: None,
         links,
-        inputs: draft.inputs,
+        inputs: draft.inputs.into_inputs(),
         turns: draft.turns,
         params: draft.params,
         home: draft.home,
@@ -92,14 +93,6 @@ fn told(stop: Stop) -> ScriptFault
         Stop::Fault(fault) => fault,
         Stop::Memory(source) => ScriptFault::Memory(source),
     }
-}
-
-/// The bytes of a line.
-fn bytes_of(text: &[u8], line: Span) -> &[u8]
-    requires { IsInside text.now line }
-    ensures { result.now ≡ text_of text.now line }
-{
-    &text[line.from as usize..line.to as usize]
 }
 
 /// The script of the lines of a text, or the first line with a fault.

@@ -1,10 +1,22 @@
-//! The words of a line, one after another and by their places. They are looked at where they stand, without memory.
+//! The bytes of a line, and its words, one after another and by their places. They are looked at where they stand,
+//! without memory.
 
 ghost use Rattle.std.specs.Prelude.{◌≡◌, ◌<◌, ◌≤◌, ◌∷◌, ◌==◌, [], length, get_or, MatchOption};
 ghost use Rattle.std.specs.List.{position_or_len, prefix_len};
+ghost use Rattle.nav_text.specs.Spans.{text_of, IsInside};
 ghost use Rattle.nav_text.specs.Words.{is_blank, words_in};
 ghost use Rattle.run_script.specs.Words.{word, is_same, says};
 ghost use Rattle.run_script.specs.Places.{is_skipped};
+
+use nav_text::Span;
+
+/// The bytes of a line.
+pub(crate) fn bytes_of(text: &[u8], line: Span) -> &[u8]
+    requires { IsInside text.now line }
+    ensures { result.now ≡ text_of text.now line }
+{
+    &text[line.from as usize..line.to as usize]
+}
 
 fn is_blank(byte: u8) -> bool
     ensures { result ≡ is_blank byte }
