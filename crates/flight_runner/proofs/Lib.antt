@@ -1,7 +1,6 @@
 pub mod Results
 pub mod Printing
 pub mod Boots
-pub mod Wholes
 pub mod Limits
 pub mod Turns
 pub mod Printable
@@ -11,6 +10,7 @@ pub mod TiedSessions
 pub mod TiedSteps
 pub mod TiedReads
 pub mod TiedWorker
+pub mod TiedServable
 pub mod TiedLink
 pub mod TiedNav
 pub mod TiedEvents
@@ -18,3 +18,17 @@ pub mod TiedTurns
 pub mod TiedBoot
 pub mod OneRun
 pub mod Commands
+pub mod CoreLists
+pub mod CoreBoard
+pub mod CoreCache
+pub mod CoreLooks
+pub mod CoreClients
+pub mod CoreReady
+pub mod CoreWorker
+pub mod CoreLinks
+pub mod CoreHears
+pub mod CoreNav
+pub mod CoreTurns
+pub mod CoreBegin
+pub mod ActorsRun
+pub mod Flown

@@ -5,7 +5,7 @@ use Rattle.mission_model.specs.declared.flight_line.Line.{Line}
 use Rattle.mission_model.specs.declared.schedule.BootScript.{BootScript}
 use Rattle.plan_vehicle.specs.VehicleRun.{VehicleRun}
 use Rattle.vehicle_core.specs.NewCore.{InLimits}
-use Rattle.flight_runner.specs.Flight.{IsFlight, IsFlightSoFar}
+use Rattle.flight_runner.specs.Flown.{IsFlownBoot, IsFlownPart}
 use Rattle.flight_runner.specs.OneVehicle.{WholeIsRun, SoFarIsRun}
 
 -- no line is a run
@@ -13,7 +13,7 @@ pub none_run : (lines : List Line) → lines ≡ [] → VehicleRun lines
 none_run lines none = subst VehicleRun (sym none) (None, refl)
 
 -- and so is what a flight leaves beside its result
-pub flown_run : {T E : Type 0} (whole : WholeIsRun) (so_far : SoFarIsRun) (boot : BootScript) (lines : List Line) (result : Result T E) → InLimits boot → OnOk result (IsFlight boot lines) → OnErr result ((lines ≡ []) ⊎ IsFlightSoFar boot lines) → VehicleRun lines
-flown_run whole so_far boot lines (Ok done) limits ok err = whole boot lines limits ok
+pub flown_run : {T E : Type 0} (whole : WholeIsRun) (so_far : SoFarIsRun) (boot : BootScript) (lines : List Line) (result : Result T E) → InLimits boot → OnOk result (IsFlownBoot boot lines) → OnErr result ((lines ≡ []) ⊎ IsFlownPart boot lines) → VehicleRun lines
+flown_run whole so_far boot lines (Ok done) limits ok err = whole boot lines limits ok.flight
 flown_run whole so_far boot lines (Err error) limits ok (inl none) = none_run lines none
-flown_run whole so_far boot lines (Err error) limits ok (inr flight) = so_far boot lines limits flight
+flown_run whole so_far boot lines (Err error) limits ok (inr part) = so_far boot lines limits part.flight

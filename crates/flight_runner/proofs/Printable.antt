@@ -24,7 +24,7 @@ use Rattle.vehicle_core.specs.NavLaw.{NavStep}
 use Rattle.vehicle_core.specs.WorkerLaw.{WorkerStep, request_of}
 use Rattle.vehicle_core.specs.CoreState.{CoreState}
 use Rattle.vehicle_core.specs.CoreLaw.{CoreStep, LinkMovesIf}
-use Rattle.flight_runner.specs.Store.{StoreState}
+use Rattle.plan_store.specs.StoreState.{StoreState}
 use Rattle.flight_runner.specs.Turn.{Turn, WorkerTurn, Acts, Rounds, line_of}
 
 by_worker : (s : SharedState) (w : Option (Client × Request)) (reply : Option Reply) (line : Line) (s' : SharedState) (w' : Option (Client × Request)) → WorkerStep s w reply (Made line) s' w' → IsPrintable line

@@ -1,5 +1,5 @@
 -- A new vehicle is tied to a new core and an empty store, so a record of its boot is a run of one vehicle.
-use Rattle.std.proofs.Common.{◌≡◌, ℕ, ◌<◌, ◌≤◌, false, List, [], ◌∷◌, ◌++◌, length, Some, refl, sym, ap, ◌∙◌, subst, arith, zero, suc, get_or, replicate}
+use Rattle.std.proofs.Common.{◌≡◌, inl, inr, ℕ, ◌<◌, ◌≤◌, false, List, [], ◌∷◌, ◌++◌, length, Some, refl, sym, ap, ◌∙◌, subst, arith, zero, suc, take, get_or, replicate}
 use Rattle.std.proofs.lemmas.List.Elements.{All-nil}
 use Rattle.mission_model.specs.declared.limits.TheConstants.{MAX_MISSION_ITEMS}
 use Rattle.mission_model.specs.declared.plan.PlanHead.{PlanHead}
@@ -23,15 +23,16 @@ use Rattle.vehicle_core.specs.NavState.{HeadFits, new_nav}
 use Rattle.vehicle_core.specs.CoreState.{CoreState, CoreFits}
 use Rattle.vehicle_core.specs.NewCore.{InLimits, new_core, new_links}
 use Rattle.vehicle_core.specs.PartsLaw.{PartsBegin, PartsStay}
-use Rattle.flight_runner.specs.Store as store
-use Rattle.flight_runner.specs.Turn.{round_of}
+use Rattle.plan_store.specs.StoreState as store
+use Rattle.flight_runner.specs.Turn.{Stops}
+use Rattle.flight_runner.specs.Round.{round_of}
 use Rattle.flight_runner.specs.Flight.{IsNewVehicle, IsEnding, IsFlight, IsFlightSoFar, empty_head}
-use Rattle.flight_runner.specs.Tied.{PlanTied, ReplyFits, NavTied, LinkTied, IsLast, Tied}
+use Rattle.flight_runner.specs.Tied.{PlanTied, ReplyFits, NavTied, LinkTied, IsLast, Tied, IsSound}
 use Rattle.flight_runner.proofs.TiedNav.{nothing_known}
-use Rattle.flight_runner.proofs.TiedTurns.{acts_reach, rounds_reach}
+use Rattle.flight_runner.proofs.TiedTurns.{Reached, acts_reach, rounds_reach}
 
 -- the empty plan is tied to the empty store
-empty_tied : PlanTied (untold empty_head) store.no_plan empty_head
+empty_tied : PlanTied (untold empty_head) store.new_store.mission.plan empty_head
 empty_tied = record { id = refl; count = refl; told = λ seq item e. cc e; waypoints = λ seq item e. cc e; head_id = refl; head_count = refl }
 
 new_nav_tied : (head : PlanHead) (index : ℕ) (inputs : List InputLine) → NavTied (untold head) mode.Hold index false (new_nav head index inputs)
@@ -49,8 +50,8 @@ none_posted zero k = refl
 none_posted (suc n) zero = refl
 none_posted (suc n) (suc k) = none_posted n k
 
-new_link_tied : (current k : ℕ) (draft : store.PlanState) (inputs : List InputLine) → LinkTied current [] [] draft [] (new_link k inputs)
-new_link_tied current k draft inputs = record { last = All-nil (IsLast [] k); session = tt }
+new_link_tied : (current k : ℕ) (drafts : store.Drafts) (inputs : List InputLine) → LinkTied current [] [] drafts [] (new_link k inputs)
+new_link_tied current k drafts inputs = record { last = All-nil (IsLast [] k); session = tt }
 
 -- the link at a place of a boot in limits
 links_new : (count : ℕ) (inputs : List (Actor × InputLine)) (k : ℕ) (d : LinkState) → count ≤ 1 → k < length (new_links count inputs) → get_or (new_links count inputs) k d ≡ new_link k (inputs_of (actor.Link k) inputs)
@@ -60,10 +61,10 @@ links_new (suc zero) inputs (suc k) d one below = absurd (omega (arith, below))
 links_new (suc (suc count)) inputs k d one below = absurd (omega (arith, one))
 
 -- a new vehicle is tied to a new core and an empty store
-new_tied : (boot : BootScript) (state : BootState) → InLimits boot → IsNewVehicle state → Tied (booted state.heads state.mark) store.new_store (new_core boot state)
+pub new_tied : (boot : BootScript) (state : BootState) → InLimits boot → IsNewVehicle state → Tied (booted state.heads state.mark) store.new_store (new_core boot state)
 new_tied boot state limits new = record {
   service = refl;
-  mission = subst (λ heads. PlanTied (untold (head_at heads 0)) store.no_plan (head_at heads 0)) (sym new.heads) empty_tied;
+  mission = subst (λ heads. PlanTied (untold (head_at heads 0)) store.new_store.mission.plan (head_at heads 0)) (sym new.heads) empty_tied;
   fence = refl;
   wanted = refl;
   replies = All-nil (ReplyFits (untold (head_at state.heads 0)));
@@ -73,11 +74,11 @@ new_tied boot state limits new = record {
       let v : VehicleState = booted state.heads state.mark in
       let c : CoreState = new_core boot state in
       let here : get_or c.links k d ≡ new_link k (inputs_of (actor.Link k) boot.inputs) = links_new boot.links boot.inputs k d limits.links within in
-      subst (λ xs. LinkTied v.mission.id [] [] store.no_plan xs (get_or c.links k d)) (sym (none_posted boot.links k)) (subst (LinkTied v.mission.id [] [] store.no_plan []) (sym here) (new_link_tied v.mission.id k store.no_plan (inputs_of (actor.Link k) boot.inputs)));
+      subst (λ xs. LinkTied v.mission.id [] [] store.no_drafts xs (get_or c.links k d)) (sym (none_posted boot.links k)) (subst (LinkTied v.mission.id [] [] store.no_drafts []) (sym here) (new_link_tied v.mission.id k store.no_drafts (inputs_of (actor.Link k) boot.inputs)));
 }
 
 -- its first line is a boot of it
-boots : (state : BootState) → IsNewVehicle state → Boots 1 state.heads state.mark (booted state.heads state.mark)
+pub boots : (state : BootState) → IsNewVehicle state → Boots 1 state.heads state.mark (booted state.heads state.mark)
 boots state new = record {
   first = refl;
   mission = new.id ∙ sym (ap (λ heads. (head_at heads 0).id) new.heads);
@@ -86,7 +87,7 @@ boots state new = record {
 }
 
 -- and the parts of the core fit
-new_fits : (begin : PartsBegin) (boot : BootScript) (state : BootState) → InLimits boot → IsNewVehicle state → CoreFits (new_core boot state)
+pub new_fits : (begin : PartsBegin) (boot : BootScript) (state : BootState) → InLimits boot → IsNewVehicle state → CoreFits (new_core boot state)
 new_fits begin boot state limits new = begin boot state limits (record {
   mission = subst (λ heads. HeadFits (head_at heads 0)) (sym new.heads) (omega arith);
   index = omega (arith, new.index);
@@ -103,10 +104,23 @@ ends c Stuck v ending = (Some v, refl, refl)
 ends c line v ending = absurd ending
 
 -- a record that stopped within the boot
+stops_led : (begin : PartsBegin) (stay : PartsStay) (boot : BootScript) (state : BootState) (made : List Line) (last : CoreState) (last_store : store.StoreState) → InLimits boot → IsNewVehicle state → Stops boot.turns (round_of boot.links) (new_core boot state) store.new_store made last last_store → Reached (booted state.heads state.mark) made last last_store
+stops_led begin stay boot state made last last_store limits new (inl among) =
+    acts_reach stay (take among.taken boot.turns) (booted state.heads state.mark) (new_core boot state) store.new_store made last last_store (new_fits begin boot state limits new) (new_tied boot state limits new) among.turns
+stops_led begin stay boot state made last last_store limits new (inr within) =
+    let first : VehicleState = booted state.heads state.mark in
+    let round : List Actor = round_of boot.links in
+    let stated = acts_reach stay boot.turns first (new_core boot state) store.new_store within.first_lines within.turned within.turned_store (new_fits begin boot state limits new) (new_tied boot state limits new) within.first in
+    let rounds = rounds_reach stay round within.count stated.last within.turned within.turned_store within.round_lines within.rounded within.rounded_store stated.fits stated.tied within.rounds in
+    let rest = acts_reach stay (take within.stops.taken round) rounds.last within.rounded within.rounded_store within.last_lines last last_store rounds.fits rounds.tied within.stops.turns in
+    let front : Lines (Some first) (within.first_lines ++ within.round_lines) (Some rounds.last) = Lines-join within.first_lines within.round_lines (Some first) (Some stated.last) (Some rounds.last) stated.led rounds.led in
+    let led : Lines (Some first) (within.first_lines ++ within.round_lines ++ within.last_lines) (Some rest.last) = Lines-join (within.first_lines ++ within.round_lines) within.last_lines (Some first) (Some rounds.last) (Some rest.last) front rest.led in
+    record { last = rest.last; led = subst (λ l. Lines (Some first) l (Some rest.last)) (sym within.all) led; fits = rest.fits; tied = rest.tied }
+
 pub so_far_run : (begin : PartsBegin) (stay : PartsStay) (boot : BootScript) (lines : List Line) → InLimits boot → IsFlightSoFar boot lines → VehicleRun lines
 so_far_run begin stay boot lines limits flight =
     let state = flight.state in
-    let end = acts_reach stay flight.actors (booted state.heads state.mark) (new_core boot state) store.new_store flight.made flight.last flight.last_store (new_fits begin boot state limits flight.new) (new_tied boot state limits flight.new) flight.turns in
+    let end = stops_led begin stay boot state flight.made flight.last flight.last_store limits flight.new flight.stops in
     subst VehicleRun (sym flight.whole) (from_boot state flight.made end.last flight.new end.led)
 
 -- the record of a whole boot
@@ -119,3 +133,7 @@ flight_run begin stay boot lines limits flight =
     let front : Lines (Some first) (flight.stated_lines ++ flight.round_lines) (Some rounds.last) = Lines-join flight.stated_lines flight.round_lines (Some first) (Some stated.last) (Some rounds.last) stated.led rounds.led in
     let all : Lines (Some first) ((flight.stated_lines ++ flight.round_lines) ++ flight.ending_line ∷ []) (Some rounds.last) = Lines-join (flight.stated_lines ++ flight.round_lines) (flight.ending_line ∷ []) (Some first) (Some rounds.last) (Some rounds.last) front (ends flight.last flight.ending_line rounds.last flight.ending) in
     subst VehicleRun (sym flight.whole) (from_boot state ((flight.stated_lines ++ flight.round_lines) ++ flight.ending_line ∷ []) rounds.last flight.new all)
+
+-- a new core and a new store are tied to a new vehicle
+pub new_sound : (begin : PartsBegin) (boot : BootScript) (state : BootState) → InLimits boot → IsNewVehicle state → IsSound (new_core boot state) store.new_store
+new_sound begin boot state limits new = record { vehicle = booted state.heads state.mark; fits = new_fits begin boot state limits new; tied = new_tied boot state limits new }

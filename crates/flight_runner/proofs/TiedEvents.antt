@@ -30,7 +30,7 @@ use Rattle.vehicle_core.specs.SharedState.{SharedState, with_board, arrived_at, 
 use Rattle.vehicle_core.specs.NavState.{NavState, IsForMission, IsForNav, met, in_mode}
 use Rattle.vehicle_core.specs.NavLaw as law
 use Rattle.vehicle_core.specs.CoreState.{CoreState, CoreFits}
-use Rattle.flight_runner.specs.Store as store
+use Rattle.plan_store.specs.StoreState as store
 use Rattle.flight_runner.specs.Tied.{NavTied, Tied}
 use Rattle.flight_runner.proofs.TiedSteps.{Next, navigated}
 use Rattle.flight_runner.proofs.TiedNav.{nav_moved, nav_schedule, nav_still, of_nav, gets_next, InForce, met_in_force}

@@ -36,14 +36,14 @@ use Rattle.vehicle_core.specs.LinkState.{LinkState, SessionFits, Uploading, link
 use Rattle.vehicle_core.specs.LinkLaw as law
 use Rattle.vehicle_core.specs.PlansFit.{SessionIdFits}
 use Rattle.vehicle_core.specs.CoreState.{CoreState, CoreFits}
-use Rattle.flight_runner.specs.Store as store
-use Rattle.flight_runner.specs.Tied.{PlanTied, ReplyFits, LinkTied, SessionTied, IsLast, Tied, upload_of}
-use Rattle.flight_runner.proofs.TiedSessions.{take_next, front_none, upload_plain}
+use Rattle.plan_store.specs.StoreState as store
+use Rattle.flight_runner.specs.Tied.{PlanTied, ReplyFits, LinkTied, AreWritten, SessionTied, IsLast, Tied, upload_of}
+use Rattle.flight_runner.proofs.TiedSessions.{take_next, none_written, upload_plain}
 use Rattle.flight_runner.proofs.TiedSteps.{Next, linked, only_link}
 use Rattle.flight_runner.proofs.TiedWorker.{link_fits, link_tied}
 
 -- a link at its place has moved: the drafts are its session's, and no unused id has one
-link_moved : (v : VehicleState) (drafts : List DraftState) (st : store.StoreState) (c : CoreState) (s : SharedState) (number : ℕ) (old new : LinkState) → CoreFits c → Tied v st c → slice_get c.links number ≡ Some old → s.board.nav_posted ≡ c.shared.board.nav_posted → s.board.published ≡ c.shared.board.published → ((id : ℕ) → last_id s < id → draft_of drafts Mission id ≡ []) → LinkTied v.mission.id drafts v.served st.mission.draft (posted s.board (Link number)) new → Tied (record v { drafts = drafts }) st (linked c s number new)
+link_moved : (v : VehicleState) (drafts : List DraftState) (st : store.StoreState) (c : CoreState) (s : SharedState) (number : ℕ) (old new : LinkState) → CoreFits c → Tied v st c → slice_get c.links number ≡ Some old → s.board.nav_posted ≡ c.shared.board.nav_posted → s.board.published ≡ c.shared.board.published → ((id : ℕ) → last_id s < id → draft_of drafts Mission id ≡ []) → LinkTied v.mission.id drafts v.served st.mission.drafts (posted s.board (Link number)) new → Tied (record v { drafts = drafts }) st (linked c s number new)
 link_moved v drafts st c s number old new fits tied at nav published unused link =
     let below = slice_get_within c.links number old at in
     let long : length (set c.links number new) ≡ length c.links = length-set c.links number new in
@@ -56,7 +56,7 @@ link_moved v drafts st c s number old new fits tied at nav published unused link
       replies = subst (All (ReplyFits v.mission)) (sym nav) tied.replies;
       nav = tied.nav;
       unused = unused;
-      links = only_link (λ k x. LinkTied v.mission.id drafts v.served st.mission.draft (posted s.board (Link k)) x) (set c.links number new) number new (omega (arith, long, fits.one)) here link;
+      links = only_link (λ k x. LinkTied v.mission.id drafts v.served st.mission.drafts (posted s.board (Link k)) x) (set c.links number new) number new (omega (arith, long, fits.one)) here link;
     }
 
 -- a fact of shared part and link, from what they are
@@ -71,7 +71,7 @@ begins_next v st c number l kind count given s' l' fits tied at begins =
     let next : SharedState = record c.shared { ids = set c.shared.ids 0 id } in
     let new : LinkState = record { number = l.number; schedule = begun_on l.schedule; session = session.Receiving id count 0 } in
     let last : last_id next ≡ id = get_or-set_at c.shared.ids 0 0 id 0 refl (rw fits.plans.ids (omega arith)) in
-    let link : LinkTied v.mission.id v.drafts v.served st.mission.draft (posted c.shared.board (Link l.number)) new = record { last = was.last; session = (tied.unused id (omega arith), front_none st.mission.draft id) } in
+    let link : LinkTied v.mission.id v.drafts v.served st.mission.drafts (posted c.shared.board (Link l.number)) new = record { last = was.last; session = (tied.unused id (omega arith), none_written st.mission.drafts id (upload_of l.schedule.inputs)) } in
     of_link (λ s x. Next v (Made (line.Sent number (said.Count kind count) given)) st (linked c s l.number x)) s' next l' new begins.shared begins.link (
       v,
       subst (λ g. Says v g v) (sym begins.answer) refl,
@@ -105,7 +105,7 @@ writes_next v st c number l seq given s' l' fits tied at writes =
     let items : List Item = upload_of l.schedule.inputs in
     let was = link_tied v st c l.number l tied at in
     let replies : List (Asked × Reply) = posted c.shared.board (Link l.number) in
-    let old : SessionTied v.mission.id v.drafts st.mission.draft replies items (session.Receiving id count seq) = subst (SessionTied v.mission.id v.drafts st.mission.draft replies items) writes.session_was was.session in
+    let old : SessionTied v.mission.id v.drafts st.mission.drafts replies items (session.Receiving id count seq) = subst (SessionTied v.mission.id v.drafts st.mission.drafts replies items) writes.session_was was.session in
     let there : slice_get items seq ≡ Some item = ap (λ inputs. slice_get (upload_of inputs) seq) writes.input ∙ writes.item_is in
     let within = slice_get_within items seq item there in
     let place : seq ≡ length (draft_of v.drafts Mission id) = sym (ap length old.0 ∙ length-take-le seq items (omega (arith, within))) in
@@ -116,8 +116,8 @@ writes_next v st c number l seq given s' l' fits tied at writes =
     let used : SessionIdFits c.shared (session.Receiving id count seq) = subst (SessionIdFits c.shared) writes.session_was ids in
     let next : SharedState = with_board c.shared (asked c.shared.board (Link l.number) (request.Write Mission id seq item)) in
     let new : LinkState = record l { session = session.Writing id count seq } in
-    let none : 0 < length replies → store.front_of st.mission.draft id (seq + 1) ≡ take (seq + 1) items = λ some. absurd (omega (arith, some, ap length writes.free.posted)) in
-    let link : LinkTied v.mission.id drafts v.served st.mission.draft replies new = record { last = was.last; session = (mine, old.1, none) } in
+    let none : 0 < length replies → AreWritten st.mission.drafts id (seq + 1) items = λ some. absurd (omega (arith, some, ap length writes.free.posted)) in
+    let link : LinkTied v.mission.id drafts v.served st.mission.drafts replies new = record { last = was.last; session = (mine, old.1, none) } in
     of_link (λ s x. Next v (Made (line.Sent number (said.Item seq) given)) st (linked c s l.number x)) s' next l' new writes.shared writes.link (
       record v { drafts = drafts },
       subst (λ g. Says v g (record v { drafts = drafts })) (sym writes.answer) (place, refl),
@@ -153,14 +153,14 @@ written_more v st c l id count seq about rest said s' l' fits tied at first is a
     let was = link_tied v st c l.number l tied at in
     let items : List Item = upload_of l.schedule.inputs in
     let replies : List (Asked × Reply) = posted c.shared.board (Link l.number) in
-    let old : SessionTied v.mission.id v.drafts st.mission.draft replies items (session.Writing id count seq) = subst (SessionTied v.mission.id v.drafts st.mission.draft replies items) is was.session in
+    let old : SessionTied v.mission.id v.drafts st.mission.drafts replies items (session.Writing id count seq) = subst (SessionTied v.mission.id v.drafts st.mission.drafts replies items) is was.session in
     let some : 0 < length replies = omega (arith, ap length first) in
     let next : SharedState = heard_by c l rest in
     let new : LinkState = record l { session = session.Receiving id count (seq + 1) } in
     let none = none_left c l (about, reply.Done) rest fits at first in
-    let link : LinkTied v.mission.id v.drafts v.served st.mission.draft [] new = record { last = All-nil (IsLast v.served l.number); session = (old.0, old.2 some) } in (
+    let link : LinkTied v.mission.id v.drafts v.served st.mission.drafts [] new = record { last = All-nil (IsLast v.served l.number); session = (old.0, old.2 some) } in (
       subst (MayAnswer about reply.Done) (sym answers) tt,
-      of_link (λ s x. Tied v st (linked c s l.number x)) s' next l' new stays moves (link_moved v v.drafts st c next l.number l new fits tied at refl refl tied.unused (subst (λ xs. LinkTied v.mission.id v.drafts v.served st.mission.draft xs new) (sym none) link)),
+      of_link (λ s x. Tied v st (linked c s l.number x)) s' next l' new stays moves (link_moved v v.drafts st c next l.number l new fits tied at refl refl tied.unused (subst (λ xs. LinkTied v.mission.id v.drafts v.served st.mission.drafts xs new) (sym none) link)),
     )
 
 -- all items were written: the worker is asked to commit the plan
@@ -170,18 +170,18 @@ written_last v st c l id count seq about rest said s' l' fits tied at first is e
     let fit = link_fits c l.number l fits at in
     let items : List Item = upload_of l.schedule.inputs in
     let replies : List (Asked × Reply) = posted c.shared.board (Link l.number) in
-    let old : SessionTied v.mission.id v.drafts st.mission.draft replies items (session.Writing id count seq) = subst (SessionTied v.mission.id v.drafts st.mission.draft replies items) is was.session in
+    let old : SessionTied v.mission.id v.drafts st.mission.drafts replies items (session.Writing id count seq) = subst (SessionTied v.mission.id v.drafts st.mission.drafts replies items) is was.session in
     let stands : SessionFits l.schedule (session.Writing id count seq) = subst (SessionFits l.schedule) is fit.1.session in
     let plain = upload_plain l.schedule.inputs count stands.0 fit.1.inputs in
     let all : take (seq + 1) items ≡ items = take_all (seq + 1) items (omega (arith, end, plain.0)) in
     let some : 0 < length replies = omega (arith, ap length first) in
-    let front : store.front_of st.mission.draft id count ≡ items = subst (λ n. store.front_of st.mission.draft id n ≡ items) end (old.2 some ∙ all) in
+    let whole : AreWritten st.mission.drafts id count items = subst (λ n. AreWritten st.mission.drafts id n items) end (old.2 some) in
     let next : SharedState = with_board (heard_by c l rest) (asked (heard_by c l rest).board (Link l.number) (request.Commit Mission id count)) in
     let new : LinkState = record l { session = session.Committing id count } in
     let none = none_left c l (about, reply.Done) rest fits at first in
-    let link : LinkTied v.mission.id v.drafts v.served st.mission.draft [] new = record { last = All-nil (IsLast v.served l.number); session = (old.0 ∙ all, λ newer. front, All-nil (λ (posted : Asked × Reply). IsDoneCommit posted.0 posted.1)) } in (
+    let link : LinkTied v.mission.id v.drafts v.served st.mission.drafts [] new = record { last = All-nil (IsLast v.served l.number); session = (old.0 ∙ all, λ newer. whole, All-nil (λ (posted : Asked × Reply). posted.1 ≡ reply.Done → IsDoneCommit posted.0 posted.1)) } in (
       subst (MayAnswer about reply.Done) (sym answers) tt,
-      of_link (λ s x. Tied v st (linked c s l.number x)) s' next l' new stays moves (link_moved v v.drafts st c next l.number l new fits tied at refl refl tied.unused (subst (λ xs. LinkTied v.mission.id v.drafts v.served st.mission.draft xs new) (sym none) link)),
+      of_link (λ s x. Tied v st (linked c s l.number x)) s' next l' new stays moves (link_moved v v.drafts st c next l.number l new fits tied at refl refl tied.unused (subst (λ xs. LinkTied v.mission.id v.drafts v.served st.mission.drafts xs new) (sym none) link)),
     )
 
 -- the upload is over once the reply is taken
@@ -199,8 +199,8 @@ done_by v st c l (session.Committing id count) about rest said s' l' fits tied a
     let was = link_tied v st c l.number l tied at in
     let items : List Item = upload_of l.schedule.inputs in
     let replies : List (Asked × Reply) = posted c.shared.board (Link l.number) in
-    let old : SessionTied v.mission.id v.drafts st.mission.draft replies items (session.Committing id count) = subst (SessionTied v.mission.id v.drafts st.mission.draft replies items) is was.session in
-    let done : IsDoneCommit about reply.Done = All-head (λ (said : Asked × Reply). IsDoneCommit said.0 said.1) (about, reply.Done) rest (subst (All (λ (said : Asked × Reply). IsDoneCommit said.0 said.1)) first old.2) in
+    let old : SessionTied v.mission.id v.drafts st.mission.drafts replies items (session.Committing id count) = subst (SessionTied v.mission.id v.drafts st.mission.drafts replies items) is was.session in
+    let done : IsDoneCommit about reply.Done = All-head (λ (said : Asked × Reply). said.1 ≡ reply.Done → IsDoneCommit said.0 said.1) (about, reply.Done) rest (subst (All (λ (said : Asked × Reply). said.1 ≡ reply.Done → IsDoneCommit said.0 said.1)) first old.2) refl in
     (subst (MayAnswer about reply.Done) (sym answers) done, heard_over v st c l (about, reply.Done) rest s' l' fits tied at first stays moves)
 
 failed_by : (v : VehicleState) (st : store.StoreState) (c : CoreState) (l : LinkState) (about : Asked) (given : Reply) (rest : List (Asked × Reply)) (said : Answer) (s' : SharedState) (l' : LinkState) → CoreFits c → Tied v st c → slice_get c.links l.number ≡ Some l → posted c.shared.board (Link l.number) ≡ (about, given) ∷ rest → said ≡ answer.Ack Error → s' ≡ heard_by c l rest → l' ≡ link_done l → Answered v st c l about given said s' l'
@@ -237,9 +237,9 @@ schedule_tied v st c s l schedule fits tied at board ids none =
     let fit = link_fits c l.number l fits at in
     let free = not_uploading l.schedule l.session none fit.1.session in
     let replies : List (Asked × Reply) = posted s.board (Link l.number) in
-    let link : LinkTied v.mission.id v.drafts v.served st.mission.draft replies (record l { schedule = schedule }) = record {
+    let link : LinkTied v.mission.id v.drafts v.served st.mission.drafts replies (record l { schedule = schedule }) = record {
       last = subst (λ b. All (IsLast v.served l.number) (posted b (Link l.number))) (sym board) was.last;
-      session = subst (SessionTied v.mission.id v.drafts st.mission.draft replies (upload_of schedule.inputs)) (sym free) tt;
+      session = subst (SessionTied v.mission.id v.drafts st.mission.drafts replies (upload_of schedule.inputs)) (sym free) tt;
     } in
     link_moved v v.drafts st c s l.number l (record l { schedule = schedule }) fits tied at (ap (λ b. b.nav_posted) board) (ap (λ b. b.published) board) (λ other above. tied.unused other (omega (arith, above, ap (λ xs. slice_index_or xs 0 0) ids))) link
 

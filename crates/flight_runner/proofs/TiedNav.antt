@@ -27,7 +27,7 @@ use Rattle.vehicle_core.specs.SharedState.{SharedState, with_board, no_head}
 use Rattle.vehicle_core.specs.NavState.{NavState, met}
 use Rattle.vehicle_core.specs.NavLaw as law
 use Rattle.vehicle_core.specs.CoreState.{CoreState, CoreFits}
-use Rattle.flight_runner.specs.Store as store
+use Rattle.plan_store.specs.StoreState as store
 use Rattle.flight_runner.specs.Tied.{PlanTied, KnownAt, ReplyFits, NavTied, LinkTied, Tied}
 use Rattle.flight_runner.proofs.TiedSteps.{Next, navigated}
 
@@ -41,7 +41,7 @@ nav_moved v mode index counts at_leg st c s n tied links published ids replies n
   replies = replies;
   nav = nav;
   unused = λ id above. tied.unused id (omega (arith, above, ap (λ xs. slice_index_or xs 0 0) ids));
-  links = λ k d within. subst (λ xs. LinkTied v.mission.id v.drafts v.served st.mission.draft (slice_index_or xs k []) (get_or c.links k d)) (sym links) (tied.links k d within);
+  links = λ k d within. subst (λ xs. LinkTied v.mission.id v.drafts v.served st.mission.drafts (slice_index_or xs k []) (get_or c.links k d)) (sym links) (tied.links k d within);
 }
 
 -- only the Navigator's schedule moved

@@ -18,7 +18,7 @@ use Rattle.mission_model.specs.declared.vehicle.Mode.{Mode}
 use Rattle.mission_model.specs.PlainMission.{IsGlobalWaypoint}
 use Rattle.plan_vehicle.specs.PlanState.{PlanState, told, told_at, with_told, CanBe}
 use Rattle.vehicle_core.specs.NavState.{NavState}
-use Rattle.flight_runner.specs.Store as store
+use Rattle.plan_store.specs.StoreState as store
 use Rattle.flight_runner.specs.Tied.{PlanTied, KnownAt, ReplyFits, NavTied}
 
 -- q is p with more told, or a newer mission
@@ -50,7 +50,7 @@ can_be None item h = tt
 can_be (Some other) item h = h other refl
 
 -- the item at a place of the plan can be told there
-pub item_can_be : (p : PlanState) (plan : store.PlanState) (head : PlanHead) (seq : ℕ) (item : Item) → PlanTied p plan head → slice_get plan.items seq ≡ Some item → CanBe (told_at p seq) item
+pub item_can_be : (p : PlanState) (plan : store.StoredPlan) (head : PlanHead) (seq : ℕ) (item : Item) → PlanTied p plan head → slice_get plan.items seq ≡ Some item → CanBe (told_at p seq) item
 item_can_be p plan head seq item tied at = can_be (told_at p seq) item (λ other e. same_Some other item (sym (tied.told seq other e) ∙ at))
 
 -- and is told once it was
@@ -73,7 +73,7 @@ later_told p seq item below can = record {
 }
 
 -- and is tied to the plan still
-pub plan_told : (p : PlanState) (plan : store.PlanState) (head : PlanHead) (seq : ℕ) (item : Item) → PlanTied p plan head → slice_get plan.items seq ≡ Some item → seq < length p.items → PlanTied (with_told p seq item) plan head
+pub plan_told : (p : PlanState) (plan : store.StoredPlan) (head : PlanHead) (seq : ℕ) (item : Item) → PlanTied p plan head → slice_get plan.items seq ≡ Some item → seq < length p.items → PlanTied (with_told p seq item) plan head
 plan_told p plan head seq item tied at below = record {
   id = tied.id;
   count = length-set p.items seq (Some item) ∙ tied.count;
@@ -105,7 +105,7 @@ each_waypoint items all seq item at =
     subst (λ (x : Item). x.command ≡ NAV_WAYPOINT) is (all seq item below).command
 
 -- the plan of these items is tied to a store that has them
-pub plan_swapped : (id : ℕ) (items : List Item) (plan : store.PlanState) (head : PlanHead) → plan.id ≡ id → plan.items ≡ items → head.id ≡ id → head.count ≡ length items → All IsGlobalWaypoint items → PlanTied (told id items) plan head
+pub plan_swapped : (id : ℕ) (items : List Item) (plan : store.StoredPlan) (head : PlanHead) → plan.id ≡ id → plan.items ≡ items → head.id ≡ id → head.count ≡ length items → All IsGlobalWaypoint items → PlanTied (told id items) plan head
 plan_swapped id items plan head id_is items_are head_id head_count waypoints =
     let long : length (map (λ (x : Item). Some x) items) ≡ length items = length-map items (λ (x : Item). Some x) in
     record {

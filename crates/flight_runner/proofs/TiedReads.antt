@@ -28,7 +28,8 @@ use Rattle.vehicle_core.specs.SharedState.{mission_head}
 use Rattle.vehicle_core.specs.LinkState.{LinkState}
 use Rattle.vehicle_core.specs.PlansFit.{AskFits, LinkAsks, NavAsks, IsAwaited}
 use Rattle.vehicle_core.specs.CoreState.{CoreState, CoreFits}
-use Rattle.flight_runner.specs.Store as store
+use Rattle.plan_store.specs.StoreState as store
+use Rattle.plan_store.specs.Serve.{Well, found as found_reply, reply_to, after}
 use Rattle.flight_runner.specs.Tied.{KnownAt, ReplyFits, Tied}
 use Rattle.flight_runner.proofs.TiedPlans.{Later, reply_later, item_can_be, told_here, later_told, plan_told, nav_told}
 use Rattle.flight_runner.proofs.TiedSteps.{Next, worked}
@@ -44,24 +45,29 @@ is_upload inputs (session.Writing id count seq) (request.Write Mission other pla
 is_upload inputs (session.Committing id count) (request.Commit Mission other total) awaited = tt
 is_upload inputs current asked awaited = absurd awaited
 
+-- the request speaks of items of plans, and not of a mark
+abbrev IsOfPlans : Request → Type 0
+IsOfPlans (request.SetMark mark) = ⊥
+IsOfPlans other = Unit {0}
+
 found_upload : (head : PlanHead) (found : Option LinkState) (asked : Request) → LinkAsks head found asked → IsUpload asked
 found_upload head None asked ask = absurd ask
 found_upload head (Some l) asked ask = is_upload l.schedule.inputs l.session asked ask.0
 
-no_mark : (asked : Request) → IsUpload asked → store.IsOfPlans asked
+no_mark : (asked : Request) → IsUpload asked → IsOfPlans asked
 no_mark (request.SetMark mark) is = absurd is
 no_mark asked is = tt
 
-nav_no_mark : (head : PlanHead) (asked : Request) → NavAsks head asked → store.IsOfPlans asked
+nav_no_mark : (head : PlanHead) (asked : Request) → NavAsks head asked → IsOfPlans asked
 nav_no_mark head (request.SetMark mark) ask = absurd ask
 nav_no_mark head asked ask = tt
 
-ask_of_plans : (head : PlanHead) (links : List LinkState) (client : Client) (asked : Request) → AskFits head links (client, asked) → store.IsOfPlans asked
+ask_of_plans : (head : PlanHead) (links : List LinkState) (client : Client) (asked : Request) → AskFits head links (client, asked) → IsOfPlans asked
 ask_of_plans head links Nav asked ask = nav_no_mark head asked ask
 ask_of_plans head links (Link number) asked ask = no_mark asked (found_upload head (slice_get links number) asked ask)
 ask_of_plans head links (Watch number) asked ask = absurd ask
 
-takes_by : (v : VehicleState) (client : Client) (asked : Request) → store.IsOfPlans asked → v.service ≡ None → Takes v client (asked_of asked) (record v { service = Some (client, asked_of asked) })
+takes_by : (v : VehicleState) (client : Client) (asked : Request) → IsOfPlans asked → v.service ≡ None → Takes v client (asked_of asked) (record v { service = Some (client, asked_of asked) })
 takes_by v client (request.SetMark mark) is free = absurd is
 takes_by v client (request.Read kind id seq) is free = (free, refl)
 takes_by v client (request.Write kind id seq item) is free = (free, refl)
@@ -79,7 +85,7 @@ takes_next v st c client asked rest fits tied free waits =
 
 -- a read is given its item
 serves_item : (v : VehicleState) (st : store.StoreState) (c : CoreState) (id seq : ℕ) (item : Item) → Tied v st c → c.taken ≡ Some (Nav, request.Read Mission id seq) → st.mission.plan.id ≡ id → slice_get st.mission.plan.items seq ≡ Some item →
-    Next v (Made (Served Nav (reply.Item item))) st (worked c (answered c.shared.board Nav (about.Read Mission id seq) (reply.Item item)) None)
+    Next v (Made (Served Nav (reply.Item item))) (store.settled st) (worked c (answered c.shared.board Nav (about.Read Mission id seq) (reply.Item item)) None)
 serves_item v st c id seq item tied takes here at =
     let asked : Asked = about.Read Mission id seq in
     let plan = tied.mission in
@@ -105,7 +111,7 @@ serves_item v st c id seq item tied takes here at =
 
 -- a read of a plan that is not in force is told the one that is
 serves_stale : (v : VehicleState) (st : store.StoreState) (c : CoreState) (id seq : ℕ) → Tied v st c → c.taken ≡ Some (Nav, request.Read Mission id seq) → st.mission.plan.id ≢ id →
-    Next v (Made (Served Nav (reply.Stale st.mission.plan.id))) st (worked c (answered c.shared.board Nav (about.Read Mission id seq) (reply.Stale st.mission.plan.id)) None)
+    Next v (Made (Served Nav (reply.Stale st.mission.plan.id))) (store.settled st) (worked c (answered c.shared.board Nav (about.Read Mission id seq) (reply.Stale st.mission.plan.id)) None)
 serves_stale v st c id seq tied takes other =
     let asked : Asked = about.Read Mission id seq in
     let given : Reply = reply.Stale st.mission.plan.id in (
@@ -124,7 +130,7 @@ serves_stale v st c id seq tied takes other =
     )
 
 serves_found : (v : VehicleState) (st : store.StoreState) (c : CoreState) (id seq : ℕ) (found : Option Item) → Tied v st c → c.taken ≡ Some (Nav, request.Read Mission id seq) → st.mission.plan.id ≡ id → seq < length st.mission.plan.items → slice_get st.mission.plan.items seq ≡ found →
-    Next v (Made (Served Nav (store.found st.mission.plan.id found))) st (worked c (answered c.shared.board Nav (about.Read Mission id seq) (store.found st.mission.plan.id found)) None)
+    Next v (Made (Served Nav (found_reply st.mission.plan.id found))) (store.settled st) (worked c (answered c.shared.board Nav (about.Read Mission id seq) (found_reply st.mission.plan.id found)) None)
 serves_found v st c id seq (Some item) tied takes here below at = serves_item v st c id seq item tied takes here at
 serves_found v st c id seq None tied takes here below at = elim (slice_get_cases st.mission.plan.items seq).1 [
   | inl there ↦ cc (at, there.2)
@@ -133,11 +139,11 @@ serves_found v st c id seq None tied takes here below at = elim (slice_get_cases
 
 -- a read is served
 pub serves_read : (v : VehicleState) (st : store.StoreState) (c : CoreState) (id seq : ℕ) → Tied v st c → c.taken ≡ Some (Nav, request.Read Mission id seq) → NavAsks (mission_head c.shared) (request.Read Mission id seq) →
-    Next v (Made (Served Nav (store.reply_to st (request.Read Mission id seq)))) st (worked c (answered c.shared.board Nav (about.Read Mission id seq) (store.reply_to st (request.Read Mission id seq))) None)
+    Next v (Made (Served Nav (reply_to Well st (request.Read Mission id seq)))) (after Well st (request.Read Mission id seq)) (worked c (answered c.shared.board Nav (about.Read Mission id seq) (reply_to Well st (request.Read Mission id seq))) None)
 serves_read v st c id seq tied takes ask =
-    let P : Reply → Type 0 = λ given. Next v (Made (Served Nav given)) st (worked c (answered c.shared.board Nav (about.Read Mission id seq) given) None) in
+    let P : Reply → Type 0 = λ given. Next v (Made (Served Nav given)) (store.settled st) (worked c (answered c.shared.board Nav (about.Read Mission id seq) given) None) in
     let plan = st.mission.plan in
-    let choice : Bool → Reply = λ own. if own then store.found plan.id (slice_get plan.items seq) else reply.Stale plan.id in
+    let choice : Bool → Reply = λ own. if own then found_reply plan.id (slice_get plan.items seq) else reply.Stale plan.id in
     elim (eqb_tells plan.id id) [
       | inl same ↦
           let in_force : id ≡ (mission_head c.shared).id = sym same.1 ∙ tied.mission.id ∙ sym tied.mission.head_id in

@@ -14,7 +14,7 @@ use Rattle.vehicle_core.specs.SharedState.{SharedState, with_board}
 use Rattle.vehicle_core.specs.LinkState.{LinkState}
 use Rattle.vehicle_core.specs.NavState.{NavState}
 use Rattle.vehicle_core.specs.CoreState.{CoreState}
-use Rattle.flight_runner.specs.Store.{StoreState}
+use Rattle.plan_store.specs.StoreState.{StoreState}
 use Rattle.flight_runner.specs.Tied.{Tied}
 
 -- after a turn there is a vehicle that the line leads to, and that is tied to core and store; an idle turn leaves it

@@ -1,13 +1,14 @@
 -- Turns one after another, and rounds of them.
-use Rattle.std.proofs.Common.{◌≡◌, ℕ, zero, suc, ◌+◌, ◌<◌, List, [], ◌∷◌, ◌++◌, length, get_or, take, refl, sym, ◌∙◌, ap, subst, append_assoc, append-nil, arith, length-append}
+use Rattle.std.proofs.Common.{◌≡◌, inl, inr, ℕ, zero, suc, ◌+◌, ◌<◌, List, [], ◌∷◌, ◌++◌, length, get_or, take, refl, sym, ◌∙◌, ap, subst, append_assoc, append-nil, arith, length-append}
+use Rattle.std.proofs.Math.Seq.{take-length}
 use Rattle.std.proofs.lemmas.List.{take_more}
 use Rattle.mission_model.specs.declared.flight_line.Actor.{Actor}
 use Rattle.mission_model.specs.declared.flight_line.Line.{Line}
 use Rattle.vehicle_core.specs.declared.StepOut.{StepOut}
 use Rattle.vehicle_core.specs.CoreState.{CoreState}
-use Rattle.flight_runner.specs.Store.{StoreState}
+use Rattle.plan_store.specs.StoreState.{StoreState}
 use Rattle.flight_runner.specs.Turn.{Turn, Acts, Rounds, line_of}
-use Rattle.flight_runner.specs.RunState.{Acted, ActedAll, SoFar, WentOn, WentRound}
+use Rattle.flight_runner.specs.RunState.{Acted, ActedAll, StoppedAmong, WentOn, StoppedRound, WentRound, SoFar}
 
 -- the same turns from an equal core and store
 from_same : (s m : CoreState) (st m_st : StoreState) (actors : List Actor) (lines : List Line) (s' : CoreState) (st' : StoreState) → m ≡ s → m_st ≡ st → Acts m m_st actors lines s' st' → Acts s st actors lines s' st'
@@ -40,21 +41,10 @@ one_more actors k d s st old m m_st mid s' st' new below all one =
 pub no_turns : (actors : List Actor) (s : CoreState) (st : StoreState) (old : List Line) → ActedAll s st (take 0 actors) old s st old
 no_turns actors s st old = record { made = []; acts = (refl, refl, refl); lines = sym (append-nil old) }
 
--- turns that stopped are turns so far
-pub stopped : (actors : List Actor) (s : CoreState) (st : StoreState) (old : List Line) (m s' : CoreState) (m_st st' : StoreState) (mid new : List Line) → ActedAll s st actors old m m_st mid → s' ≡ m → st' ≡ m_st → new ≡ mid → SoFar s st old s' st' new
-stopped actors s st old m s' m_st st' mid new all e e_st is =
-    subst (λ (x : CoreState). SoFar s st old x st' new) (sym e) (subst (λ (x : StoreState). SoFar s st old m x new) (sym e_st) (subst (SoFar s st old m m_st) (sym is) (record { actors = actors; acted = all })))
-
--- turns so far, and turns so far from there
-pub so_far_more : (s : CoreState) (st : StoreState) (old : List Line) (m : CoreState) (m_st : StoreState) (mid : List Line) (s' : CoreState) (st' : StoreState) (new : List Line) → SoFar s st old m m_st mid → SoFar m m_st mid s' st' new → SoFar s st old s' st' new
-so_far_more s st old m m_st mid s' st' new first more = record {
-  actors = first.actors ++ more.actors;
-  acted = record {
-    made = first.acted.made ++ more.acted.made;
-    acts = acts_append first.actors more.actors s st first.acted.made more.acted.made m m_st s' st' first.acted.acts more.acted.acts;
-    lines = more.acted.lines ∙ (ap (λ (l : List Line). l ++ more.acted.made) first.acted.lines ∙ append_assoc old first.acted.made more.acted.made);
-  };
-}
+-- turns that stopped are some first ones of them
+pub stopped : (k : ℕ) (actors : List Actor) (s : CoreState) (st : StoreState) (old : List Line) (m s' : CoreState) (m_st st' : StoreState) (mid new : List Line) → ActedAll s st (take k actors) old m m_st mid → s' ≡ m → st' ≡ m_st → new ≡ mid → StoppedAmong s st actors old s' st' new
+stopped k actors s st old m s' m_st st' mid new all e e_st is =
+    subst (λ (x : CoreState). StoppedAmong s st actors old x st' new) (sym e) (subst (λ (x : StoreState). StoppedAmong s st actors old m x new) (sym e_st) (subst (StoppedAmong s st actors old m m_st) (sym is) (record { taken = k; acted = all })))
 
 -- rounds from an equal core and store
 rounds_same : (round : List Actor) (n : ℕ) (s m : CoreState) (st m_st : StoreState) (lines : List Line) (s' : CoreState) (st' : StoreState) → m ≡ s → m_st ≡ st → Rounds round n m m_st lines s' st' → Rounds round n s st lines s' st'
@@ -67,13 +57,6 @@ rounds_more round zero s st a b m m_st s' st' (none, same, same_st) acts some =
     (b, s', st', [], from_same s m st m_st round b s' st' same same_st acts, some, (refl, refl, refl), ap (λ (l : List Line). l ++ b) none ∙ sym (append-nil b))
 rounds_more round (suc n) s st a b m m_st s' st' (first, x, x_st, rest, acts, made, rounds, is) more some =
     (first, x, x_st, rest ++ b, acts, made, rounds_more round n x x_st rest b m m_st s' st' rounds more some, ap (λ (l : List Line). l ++ b) is ∙ append_assoc first rest b)
-
--- rounds are turns of some actors
-rounds_acts : (round : List Actor) (n : ℕ) (s : CoreState) (st : StoreState) (lines : List Line) (s' : CoreState) (st' : StoreState) → Rounds round n s st lines s' st' → (actors : List Actor) × Acts s st actors lines s' st'
-rounds_acts round zero s st lines s' st' rounds = ([], rounds)
-rounds_acts round (suc n) s st lines s' st' (first, x, x_st, rest, acts, made, rounds, is) =
-    let more = rounds_acts round n x x_st rest s' st' rounds in
-    (round ++ more.0, subst (λ (l : List Line). Acts s st (round ++ more.0) l s' st') (sym is) (acts_append round more.0 s st first rest x x_st s' st' acts more.1))
 
 -- no round
 pub no_rounds : (s : CoreState) (st : StoreState) (round : List Actor) (old : List Line) → WentOn s st round old s st old
@@ -106,18 +89,51 @@ went_round s st round old m m_st mid s' st' new went all same =
       still = subst (λ (l : List Line). Acts m m_st round l s' st') none all.acts;
     }
 
--- rounds so far
-pub went_so_far : (s : CoreState) (st : StoreState) (round : List Actor) (old : List Line) (s' : CoreState) (st' : StoreState) (new : List Line) → WentOn s st round old s' st' new → SoFar s st old s' st' new
-went_so_far s st round old s' st' new went =
-    let acts = rounds_acts round went.count s st went.made s' st' went.rounds in
-    record { actors = acts.0; acted = record { made = went.made; acts = acts.1; lines = went.lines } }
+-- the turns stopped among the stated ones
+pub stopped_first : (s : CoreState) (st : StoreState) (turns round : List Actor) (old : List Line) (s' : CoreState) (st' : StoreState) (new : List Line) → StoppedAmong s st turns old s' st' new → SoFar s st turns round old s' st' new
+stopped_first s st turns round old s' st' new first = record {
+  made = first.acted.made;
+  stops = inl (record { taken = first.taken; turns = first.acted.acts });
+  lines = first.acted.lines;
+}
 
--- all turns of a list are turns so far
-pub all_so_far : (s : CoreState) (st : StoreState) (actors : List Actor) (old : List Line) (s' : CoreState) (st' : StoreState) (new : List Line) → ActedAll s st actors old s' st' new → SoFar s st old s' st' new
-all_so_far s st actors old s' st' new all = record { actors = actors; acted = all }
+-- and within a round
+pub stopped_round : (s : CoreState) (st : StoreState) (turns round : List Actor) (old : List Line) (m : CoreState) (m_st : StoreState) (mid : List Line) (s' : CoreState) (st' : StoreState) (new : List Line) → ActedAll s st turns old m m_st mid → StoppedRound m m_st round mid s' st' new → SoFar s st turns round old s' st' new
+stopped_round s st turns round old m m_st mid s' st' new all more =
+    let last = more.stopped.acted in
+    let lines : new ≡ ((old ++ all.made) ++ more.went.made) ++ last.made = last.lines ∙ ap (λ (l : List Line). l ++ last.made) (more.went.lines ∙ ap (λ (l : List Line). l ++ more.went.made) all.lines) in
+    record {
+      made = all.made ++ more.went.made ++ last.made;
+      stops = inr (record {
+        first_lines = all.made;
+        turned = m;
+        turned_store = m_st;
+        first = all.acts;
+        count = more.went.count;
+        round_lines = more.went.made;
+        rounded = more.rounded;
+        rounded_store = more.rounded_store;
+        rounds = more.went.rounds;
+        last_lines = last.made;
+        stops = record { taken = more.stopped.taken; turns = last.acts };
+        all = refl;
+      });
+      lines = lines ∙ (ap (λ (l : List Line). l ++ last.made) (append_assoc old all.made more.went.made) ∙ append_assoc old (all.made ++ more.went.made) last.made);
+    }
 
--- rounds and the one that makes no line, so far
-pub round_so_far : (s : CoreState) (st : StoreState) (round : List Actor) (old : List Line) (s' : CoreState) (st' : StoreState) (new : List Line) → WentRound s st round old s' st' new → SoFar s st old s' st' new
-round_so_far s st round old s' st' new went =
-    so_far_more s st old went.rounded went.rounded_store new s' st' new (went_so_far s st round old went.rounded went.rounded_store new went.went)
-    (record { actors = round; acted = record { made = []; acts = went.still; lines = sym (append-nil new) } })
+-- rounds, and some first turns of the next one
+pub stopped_within : (s : CoreState) (st : StoreState) (round : List Actor) (old : List Line) (m : CoreState) (m_st : StoreState) (mid : List Line) (s' : CoreState) (st' : StoreState) (new : List Line) → WentOn s st round old m m_st mid → StoppedAmong m m_st round mid s' st' new → StoppedRound s st round old s' st' new
+stopped_within s st round old m m_st mid s' st' new went stopped = record { rounded = m; rounded_store = m_st; rounded_lines = mid; went = went; stopped = stopped }
+
+-- a whole round that makes no line is one in which nothing is left to do
+pub round_stopped : (s : CoreState) (st : StoreState) (round : List Actor) (old : List Line) (s' : CoreState) (st' : StoreState) (new : List Line) → WentRound s st round old s' st' new → StoppedRound s st round old s' st' new
+round_stopped s st round old s' st' new went = record {
+  rounded = went.rounded;
+  rounded_store = went.rounded_store;
+  rounded_lines = new;
+  went = went.went;
+  stopped = record {
+    taken = length round;
+    acted = record { made = []; acts = subst (λ (l : List Actor). Acts went.rounded went.rounded_store l [] s' st') (sym (take-length round)) went.still; lines = sym (append-nil new) };
+  };
+}

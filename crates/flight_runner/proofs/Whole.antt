@@ -11,8 +11,9 @@ use Rattle.mission_model.specs.declared.schedule.BootScript.{BootScript}
 use Rattle.record_text.specs.Record.{IsOnMission, IsPrintable}
 use Rattle.vehicle_core.specs.CoreState.{CoreState}
 use Rattle.vehicle_core.specs.NewCore.{new_core}
-use Rattle.flight_runner.specs.Store.{StoreState, new_store}
-use Rattle.flight_runner.specs.Turn.{Acts, Rounds, round_of}
+use Rattle.plan_store.specs.StoreState.{StoreState, new_store}
+use Rattle.flight_runner.specs.Turn.{Acts, Rounds, Stops}
+use Rattle.flight_runner.specs.Round.{round_of}
 use Rattle.flight_runner.specs.Flight.{IsBegun, IsEnding, IsFlight, IsFlightSoFar, empty_head}
 use Rattle.flight_runner.specs.RunState.{SoFar, Flew}
 use Rattle.flight_runner.proofs.Printable.{of_acts, of_rounds}
@@ -27,16 +28,21 @@ behind : (boot : BootScript) (s : CoreState) (st : StoreState) (first : List Lin
 behind boot s st first begun new made is = is ∙ ap (λ (l : List Line). l ++ made) begun.first
 
 -- a run that stopped
-pub stopped_flight : (boot : BootScript) (s : CoreState) (st : StoreState) (first : List Line) (s' : CoreState) (st' : StoreState) (new : List Line) → IsBegun boot s st first → SoFar s st first s' st' new → IsFlightSoFar boot new
-stopped_flight boot s st first s' st' new begun so_far = record {
+stops_new : (boot : BootScript) (s : CoreState) (st : StoreState) (first : List Line) (begun : IsBegun boot s st first) (turns round : List Actor) (lines : List Line) (s' : CoreState) (st' : StoreState) → turns ≡ boot.turns → round ≡ round_of boot.links → Stops turns round s st lines s' st' → Stops boot.turns (round_of boot.links) (new_core boot begun.state) new_store lines s' st'
+stops_new boot s st first begun turns round lines s' st' turns_are round_is stops =
+    subst (λ (x : CoreState). Stops boot.turns (round_of boot.links) x new_store lines s' st') begun.core
+    (subst (λ (x : StoreState). Stops boot.turns (round_of boot.links) s x lines s' st') begun.store
+    (subst (λ (l : List Actor). Stops l (round_of boot.links) s st lines s' st') turns_are (subst (λ (l : List Actor). Stops turns l s st lines s' st') round_is stops)))
+
+pub stopped_flight : (boot : BootScript) (s : CoreState) (st : StoreState) (first : List Line) (turns round : List Actor) (s' : CoreState) (st' : StoreState) (new : List Line) → IsBegun boot s st first → SoFar s st turns round first s' st' new → turns ≡ boot.turns → round ≡ round_of boot.links → IsFlightSoFar boot new
+stopped_flight boot s st first turns round s' st' new begun so_far turns_are round_is = record {
   state = begun.state;
   new = begun.new;
-  actors = so_far.actors;
-  made = so_far.acted.made;
+  made = so_far.made;
   last = s';
   last_store = st';
-  turns = from_new boot s st first begun so_far.actors so_far.acted.made s' st' so_far.acted.acts;
-  whole = behind boot s st first begun new so_far.acted.made so_far.acted.lines;
+  stops = stops_new boot s st first begun turns round so_far.made s' st' turns_are round_is so_far.stops;
+  whole = behind boot s st first begun new so_far.made so_far.lines;
 }
 
 -- a whole run

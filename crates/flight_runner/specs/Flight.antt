@@ -3,14 +3,14 @@ use Rattle.std.specs.Prelude.{◌≡◌, ℕ, List, [], ◌∷◌, ◌++◌}
 use Rattle.mission_model.specs.CountsList.{pairs_of}
 use Rattle.mission_model.specs.declared.plan.PlanHead.{PlanHead}
 use Rattle.mission_model.specs.declared.vehicle.BootState.{BootState}
-use Rattle.mission_model.specs.declared.flight_line.Actor.{Actor}
 use Rattle.mission_model.specs.declared.flight_line.Line.{Line}
 use Rattle.mission_model.specs.declared.flight_line.Line.TheVariants.{Boot, End, Stuck}
 use Rattle.mission_model.specs.declared.schedule.BootScript.{BootScript}
 use Rattle.vehicle_core.specs.CoreState.{CoreState, IsFinished}
 use Rattle.vehicle_core.specs.NewCore.{new_core}
-use Rattle.flight_runner.specs.Store.{StoreState, new_store}
-use Rattle.flight_runner.specs.Turn.{Acts, Rounds, round_of}
+use Rattle.plan_store.specs.StoreState.{StoreState, new_store}
+use Rattle.flight_runner.specs.Turn.{Acts, Rounds, Stops}
+use Rattle.flight_runner.specs.Round.{round_of}
 
 -- the head of the empty plan
 abbrev pub empty_head : PlanHead
@@ -62,13 +62,13 @@ pub record IsFlight (boot : BootScript) (lines : List Line) : Type 0 where
   pub ending : IsEnding last ending_line
   pub whole : lines ≡ Boot 1 state.heads state.mark ∷ (stated_lines ++ round_lines ++ ending_line ∷ [])
 
--- a record that stopped within the boot: the lines so far are those of turns of some actors
+-- A record that stopped within the boot: the lines so far are those of the stated turns, or of all of them and then of
+-- rounds, as far as they came.
 pub record IsFlightSoFar (boot : BootScript) (lines : List Line) : Type 0 where
   pub state : BootState
   pub new : IsNewVehicle state
-  pub actors : List Actor
   pub made : List Line
   pub last : CoreState
   pub last_store : StoreState
-  pub turns : Acts (new_core boot state) new_store actors made last last_store
+  pub stops : Stops boot.turns (round_of boot.links) (new_core boot state) new_store made last last_store
   pub whole : lines ≡ Boot 1 state.heads state.mark ∷ made

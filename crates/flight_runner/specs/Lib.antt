@@ -1,4 +1,4 @@
-pub mod Store
+pub mod Round
 pub mod Turn
 pub mod Flight
 pub mod RunState
@@ -8,3 +8,10 @@ pub mod OneVehicle
 pub mod Judgement
 pub mod Checked
 pub mod Commands
+pub mod BootTold
+pub mod BootReady
+pub mod CoreRun
+pub mod Order
+pub mod CoreTold
+pub mod ActorsRun
+pub mod Flown

@@ -15,7 +15,7 @@ use Rattle.flight_runner.specs.declared.status.Status.{Status}
 use Rattle.flight_runner.specs.declared.status.Status.TheVariants as status
 use Rattle.flight_runner.specs.declared.print.Ungiven.{Ungiven}
 use Rattle.flight_runner.specs.declared.print.Ungiven.TheVariants as ungiven
-use Rattle.flight_runner.specs.Flight.{IsFlight, IsFlightSoFar}
+use Rattle.flight_runner.specs.Flown.{IsFlownBoot, IsFlownPart}
 
 -- the number of a status
 abbrev pub number_of : Status → ℕ
@@ -28,14 +28,14 @@ number_of status.WriteFault = 5
 number_of status.Memory = 6
 number_of status.TooLong = 7
 
--- the record is that of the script's one boot
+-- the record is that of the script's one boot: a run of its actors in the stated order
 abbrev pub IsFlightOf : List BootScript → List Line → Type 0
-IsFlightOf (boot ∷ []) lines = IsFlight boot lines
+IsFlightOf (boot ∷ []) lines = IsFlownBoot boot lines
 IsFlightOf boots lines = ⊥
 
--- the record stopped within the script's one boot
+-- the record stopped within the script's one boot: it is such a run as far as it came
 abbrev pub IsSoFarOf : List BootScript → List Line → Type 0
-IsSoFarOf (boot ∷ []) lines = IsFlightSoFar boot lines
+IsSoFarOf (boot ∷ []) lines = IsFlownPart boot lines
 IsSoFarOf boots lines = ⊥
 
 -- the text is a script, and the record is that of its flight

@@ -1,11 +1,11 @@
 -- What the parts of a run add to a record, between one state of core and store and another.
-use Rattle.std.specs.Prelude.{◌≡◌, ℕ, List, [], ◌∷◌, ◌++◌}
+use Rattle.std.specs.Prelude.{◌≡◌, ℕ, List, [], ◌∷◌, ◌++◌, take}
 use Rattle.mission_model.specs.declared.flight_line.Actor.{Actor}
 use Rattle.mission_model.specs.declared.flight_line.Line.{Line}
 use Rattle.vehicle_core.specs.declared.StepOut.{StepOut}
 use Rattle.vehicle_core.specs.CoreState.{CoreState}
-use Rattle.flight_runner.specs.Store.{StoreState}
-use Rattle.flight_runner.specs.Turn.{Turn, Acts, Rounds, line_of}
+use Rattle.plan_store.specs.StoreState.{StoreState}
+use Rattle.flight_runner.specs.Turn.{Turn, Acts, Rounds, Stops, line_of}
 use Rattle.flight_runner.specs.Flight.{IsEnding}
 
 -- one turn, and its line
@@ -20,10 +20,10 @@ pub record ActedAll (s : CoreState) (st : StoreState) (actors : List Actor) (old
   pub acts : Acts s st actors made s' st'
   pub lines : new ≡ old ++ made
 
--- the turns of some actors, and their lines
-pub record SoFar (s : CoreState) (st : StoreState) (old : List Line) (s' : CoreState) (st' : StoreState) (new : List Line) : Type 0 where
-  pub actors : List Actor
-  pub acted : ActedAll s st actors old s' st' new
+-- some first turns of these actors, and their lines
+pub record StoppedAmong (s : CoreState) (st : StoreState) (actors : List Actor) (old : List Line) (s' : CoreState) (st' : StoreState) (new : List Line) : Type 0 where
+  pub taken : ℕ
+  pub acted : ActedAll s st (take taken actors) old s' st' new
 
 -- rounds, of which each makes a line, and their lines
 pub record WentOn (s : CoreState) (st : StoreState) (round : List Actor) (old : List Line) (s' : CoreState) (st' : StoreState) (new : List Line) : Type 0 where
@@ -31,6 +31,14 @@ pub record WentOn (s : CoreState) (st : StoreState) (round : List Actor) (old : 
   pub made : List Line
   pub rounds : Rounds round count s st made s' st'
   pub lines : new ≡ old ++ made
+
+-- such rounds, and some first turns of the next one
+pub record StoppedRound (s : CoreState) (st : StoreState) (round : List Actor) (old : List Line) (s' : CoreState) (st' : StoreState) (new : List Line) : Type 0 where
+  pub rounded : CoreState
+  pub rounded_store : StoreState
+  pub rounded_lines : List Line
+  pub went : WentOn s st round old rounded rounded_store rounded_lines
+  pub stopped : StoppedAmong rounded rounded_store round rounded_lines s' st' new
 
 -- rounds, of which each makes a line, their lines, and a round that makes none
 pub record WentRound (s : CoreState) (st : StoreState) (round : List Actor) (old : List Line) (s' : CoreState) (st' : StoreState) (new : List Line) : Type 0 where
@@ -52,3 +60,9 @@ pub record Flew (s : CoreState) (st : StoreState) (turns : List Actor) (round : 
   pub ending_line : Line
   pub ending : IsEnding last ending_line
   pub lines : new ≡ last_lines ++ ending_line ∷ []
+
+-- the stated turns and then the rounds, as far as they came
+pub record SoFar (s : CoreState) (st : StoreState) (turns : List Actor) (round : List Actor) (old : List Line) (s' : CoreState) (st' : StoreState) (new : List Line) : Type 0 where
+  pub made : List Line
+  pub stops : Stops turns round s st made s' st'
+  pub lines : new ≡ old ++ made

@@ -24,11 +24,11 @@ use Rattle.vehicle_core.specs.declared.link.Session.TheVariants as session
 use Rattle.vehicle_core.specs.SharedState.{mission_head, fence_id, last_id}
 use Rattle.vehicle_core.specs.LinkState.{LinkState}
 use Rattle.vehicle_core.specs.NavState.{NavState}
-use Rattle.vehicle_core.specs.CoreState.{CoreState}
-use Rattle.flight_runner.specs.Store as store
+use Rattle.vehicle_core.specs.CoreState.{CoreState, CoreFits}
+use Rattle.plan_store.specs.StoreState as store
 
 -- the store's mission is the vehicle's: each told item is the store's, all are waypoints, and the head is published
-pub record PlanTied (p : PlanState) (plan : store.PlanState) (head : PlanHead) : Type 0 where
+pub record PlanTied (p : PlanState) (plan : store.StoredPlan) (head : PlanHead) : Type 0 where
   pub id : plan.id ≡ p.id
   pub count : length p.items ≡ length plan.items
   pub told : (seq : ℕ) (item : Item) → told_at p seq ≡ Some item → slice_get plan.items seq ≡ Some item
@@ -61,26 +61,30 @@ abbrev pub upload_of : List InputLine → List Item
 upload_of (input.Upload kind items ∷ rest) = items
 upload_of inputs = []
 
+-- the items below a seq were written last at their seqs, for the plan of this id
+abbrev pub AreWritten : store.Drafts → ℕ → ℕ → List Item → Type 0
+AreWritten drafts id seq items = (k : ℕ) → k < seq → store.draft_at drafts id k ≡ slice_get items k
+
 -- the drafts of vehicle and store, by where the session of an upload of these items stands: the vehicle's has the items
 -- that were sent, the store's those of the writes that were served, until the commit is
-abbrev pub SessionTied : ℕ → List DraftState → store.PlanState → List (Asked × Reply) → List Item → Session → Type 0
-SessionTied current drafts draft replies items session.Free = Unit {0}
-SessionTied current drafts draft replies items (session.Receiving id count seq) = (draft_of drafts Mission id ≡ take seq items) × (store.front_of draft id seq ≡ take seq items)
-SessionTied current drafts draft replies items (session.Writing id count seq) =
-    (draft_of drafts Mission id ≡ take (seq + 1) items) × (store.front_of draft id seq ≡ take seq items)
-    × (0 < length replies → store.front_of draft id (seq + 1) ≡ take (seq + 1) items)
-SessionTied current drafts draft replies items (session.Committing id count) =
-    (draft_of drafts Mission id ≡ items) × (current < id → store.front_of draft id count ≡ items)
-    × All (λ said. IsDoneCommit said.0 said.1) replies
+abbrev pub SessionTied : ℕ → List DraftState → store.Drafts → List (Asked × Reply) → List Item → Session → Type 0
+SessionTied current drafts written replies items session.Free = Unit {0}
+SessionTied current drafts written replies items (session.Receiving id count seq) = (draft_of drafts Mission id ≡ take seq items) × AreWritten written id seq items
+SessionTied current drafts written replies items (session.Writing id count seq) =
+    (draft_of drafts Mission id ≡ take (seq + 1) items) × AreWritten written id seq items
+    × (0 < length replies → AreWritten written id (seq + 1) items)
+SessionTied current drafts written replies items (session.Committing id count) =
+    (draft_of drafts Mission id ≡ items) × (current < id → AreWritten written id count items)
+    × All (λ said. said.1 ≡ reply.Done → IsDoneCommit said.0 said.1) replies
 
 -- the request of the link that was served last, with its reply
 abbrev pub IsLast : List ServedState → ℕ → Asked × Reply → Type 0
 IsLast served link said = option_map reply_of (last_served served link) ≡ Some said
 
 -- what is posted to a link is the reply to its request that was served last, and the drafts are those of its session
-pub record LinkTied (current : ℕ) (drafts : List DraftState) (served : List ServedState) (draft : store.PlanState) (replies : List (Asked × Reply)) (l : LinkState) : Type 0 where
+pub record LinkTied (current : ℕ) (drafts : List DraftState) (served : List ServedState) (written : store.Drafts) (replies : List (Asked × Reply)) (l : LinkState) : Type 0 where
   pub last : All (IsLast served l.number) replies
-  pub session : SessionTied current drafts draft replies (upload_of l.schedule.inputs) l.session
+  pub session : SessionTied current drafts written replies (upload_of l.schedule.inputs) l.session
 
 -- the vehicle is that of the core over the store
 pub record Tied (v : VehicleState) (st : store.StoreState) (c : CoreState) : Type 0 where
@@ -91,4 +95,10 @@ pub record Tied (v : VehicleState) (st : store.StoreState) (c : CoreState) : Typ
   pub replies : All (ReplyFits v.mission) c.shared.board.nav_posted
   pub nav : NavTied v.mission v.mode v.index v.at_leg c.nav
   pub unused : (id : ℕ) → last_id c.shared < id → draft_of v.drafts Mission id ≡ []
-  pub links : (k : ℕ) (d : LinkState) → k < length c.links → LinkTied v.mission.id v.drafts v.served st.mission.draft (posted c.shared.board (client.Link k)) (slice_index_or c.links k d)
+  pub links : (k : ℕ) (d : LinkState) → k < length c.links → LinkTied v.mission.id v.drafts v.served st.mission.drafts (posted c.shared.board (client.Link k)) (slice_index_or c.links k d)
+
+-- some vehicle is that of the core over the store, so that the store can serve what the worker has taken
+pub record IsSound (c : CoreState) (st : store.StoreState) : Type 0 where
+  pub vehicle : VehicleState
+  pub fits : CoreFits c
+  pub tied : Tied vehicle st c

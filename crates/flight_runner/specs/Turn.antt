@@ -1,5 +1,5 @@
 -- The actors' turns over the store, in a stated order.
-use Rattle.std.specs.Prelude.{◌≡◌, ℕ, ◌<◌, zero, suc, List, [], ◌∷◌, ◌++◌, length, Option, Some, None}
+use Rattle.std.specs.Prelude.{◌≡◌, ◌⊎◌, ℕ, ◌<◌, zero, suc, List, [], ◌∷◌, ◌++◌, length, take, Option, Some, None}
 use Rattle.mission_model.specs.declared.request.Request.{Request}
 use Rattle.mission_model.specs.declared.flight_line.Actor.{Actor}
 use Rattle.mission_model.specs.declared.flight_line.Actor.TheVariants.{Worker, Link, Nav, Watch}
@@ -9,12 +9,13 @@ use Rattle.vehicle_core.specs.declared.StepOut.TheVariants.{Made, Idle}
 use Rattle.vehicle_core.specs.WorkerLaw.{request_of}
 use Rattle.vehicle_core.specs.CoreState.{CoreState}
 use Rattle.vehicle_core.specs.CoreLaw.{CoreStep}
-use Rattle.flight_runner.specs.Store.{StoreState, reply_to, after}
+use Rattle.plan_store.specs.StoreState.{StoreState}
+use Rattle.plan_store.specs.Serve.{Well, reply_to, after}
 
--- the worker's turn: a request that it has taken is served by the store, and the reply is posted
+-- the worker's turn: a request that it has taken is served by a store in which nothing fails, and the reply is posted
 abbrev pub WorkerTurn : Option Request → CoreState → StoreState → StepOut Line → CoreState → StoreState → Type 0
 WorkerTurn None s st out s' st' = CoreStep s Worker None out s' × (st' ≡ st)
-WorkerTurn (Some request) s st out s' st' = CoreStep s Worker (Some (reply_to st request)) out s' × (st' ≡ after st request)
+WorkerTurn (Some request) s st out s' st' = CoreStep s Worker (Some (reply_to Well st request)) out s' × (st' ≡ after Well st request)
 
 -- one actor's turn over the store
 abbrev pub Turn : CoreState → StoreState → Actor → StepOut Line → CoreState → StoreState → Type 0
@@ -38,11 +39,26 @@ abbrev pub Rounds : List Actor → ℕ → CoreState → StoreState → List Lin
 Rounds round zero s st lines s' st' = (lines ≡ []) × (s' ≡ s) × (st' ≡ st)
 Rounds round (suc n) s st lines s' st' = (first : List Line) × (mid : CoreState) × (mid_st : StoreState) × (rest : List Line) × Acts s st round first mid mid_st × (0 < length first) × Rounds round n mid mid_st rest s' st' × (lines ≡ first ++ rest)
 
--- the links below a number, in their order
-abbrev pub links_below : ℕ → List Actor
-links_below zero = []
-links_below (suc n) = links_below n ++ Link n ∷ []
+-- the turns stopped: after some first ones of these
+pub record StopsAmong (actors : List Actor) (s : CoreState) (st : StoreState) (lines : List Line) (s' : CoreState) (st' : StoreState) : Type 0 where
+  pub taken : ℕ
+  pub turns : Acts s st (take taken actors) lines s' st'
 
--- a round: the worker, the links in their order, the Navigator
-abbrev pub round_of : ℕ → List Actor
-round_of links = Worker ∷ links_below links ++ Nav ∷ []
+-- the turns stopped after all of these and so many rounds, of which each makes a line: within the next round
+pub record StopsInRound (actors round : List Actor) (s : CoreState) (st : StoreState) (lines : List Line) (s' : CoreState) (st' : StoreState) : Type 0 where
+  pub first_lines : List Line
+  pub turned : CoreState
+  pub turned_store : StoreState
+  pub first : Acts s st actors first_lines turned turned_store
+  pub count : ℕ
+  pub round_lines : List Line
+  pub rounded : CoreState
+  pub rounded_store : StoreState
+  pub rounds : Rounds round count turned turned_store round_lines rounded rounded_store
+  pub last_lines : List Line
+  pub stops : StopsAmong round rounded rounded_store last_lines s' st'
+  pub all : lines ≡ first_lines ++ round_lines ++ last_lines
+
+-- the turns of these actors, and then of rounds, stopped somewhere
+abbrev pub Stops : List Actor → List Actor → CoreState → StoreState → List Line → CoreState → StoreState → Type 0
+Stops actors round s st lines s' st' = StopsAmong actors s st lines s' st' ⊎ StopsInRound actors round s st lines s' st'

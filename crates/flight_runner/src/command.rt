@@ -1,9 +1,10 @@
 //! The commands, and `replay`: a script is read to its end, flown, and its record given.
 
-ghost use Rattle.std.specs.Prelude.{◌≡◌, ◌≤◌, length};
+ghost use Rattle.std.specs.Prelude.{◌≡◌, ◌≤◌, ℕ, List, length, All};
+ghost use Rattle.record_text.specs.Record.{IsPrintable};
 ghost use Rattle.plan_vehicle.specs.VehicleRun.{VehicleRun};
 ghost use Rattle.run_script.specs.declared.bounds.TheConstants.{MAX_SCRIPT_BYTES};
-ghost use Rattle.flight_runner.specs.Outcome.{TextCause, Cause, IsGiven, Completes, CompletesText};
+ghost use Rattle.flight_runner.specs.Outcome.{IsFlown, TextCause, Cause, IsGiven, Completes, CompletesText};
 ghost use Rattle.flight_runner.specs.Commands.{IsCommand, Ran, RanNothing, CompletesBy};
 
 use crate::checking::check;
@@ -12,6 +13,7 @@ use crate::print::{Ungiven, give_lines};
 use crate::status::{Outcome, Status};
 use crate::words::{Command, command_of};
 use io_edges::{ReadFault, Sink, Source, read_to_end};
+use mission_model::Line;
 use run_script::bounds::MAX_SCRIPT_BYTES;
 use run_script::{ScriptFault, read_script};
 use std::alloc::Global;
@@ -119,6 +121,19 @@ fn fly_text<K: Sink>(alloc: Global, text: &[u8], output: &mut K) -> Outcome
             lines,
         };
     }
+    give_record(alloc, lines, output)
+}
+
+/// Gives the record of a flight that came to its end.
+fn give_record<K: Sink>(alloc: Global, lines: Vec<Line>, output: &mut K) -> Outcome
+    requires printable { All IsPrintable lines.items }
+    requires vehicle { VehicleRun lines.items }
+    ensures cause { (text : List ℕ) → IsFlown text lines.items → TextCause text result.status result.lines.items }
+    ensures given { IsGiven result.status result.lines.items (K.faults output.old) (K.faults output.new) (K.held output.old) (K.held output.new) }
+    ensures never_falls { K.faults output.old ≤ K.faults output.new }
+    ensures vehicle { VehicleRun result.lines.items }
+    ensures complete { (text : List ℕ) → CompletesText text (K.faults output.old) (K.faults output.new) result.status }
+{
     match give_lines(alloc, lines.as_slice(), output) {
         Ok(()) => Outcome {
             status: Status::Ok,

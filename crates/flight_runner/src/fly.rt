@@ -4,15 +4,18 @@ ghost use Rattle.std.specs.Prelude.{◌≡◌, ◌⊎◌, [], ◌∷◌, All, If
 ghost use Rattle.record_text.specs.Record.{IsPrintable};
 ghost use Rattle.run_script.specs.Flyable.{IsFlyable, IsFlyableBoot};
 ghost use Rattle.plan_vehicle.specs.VehicleRun.{VehicleRun};
-ghost use Rattle.flight_runner.specs.Turn.{round_of};
-ghost use Rattle.flight_runner.specs.Flight.{IsNewVehicle, IsBegun, IsFlight, IsFlightSoFar};
+ghost use Rattle.plan_store.specs.MapStore.{held};
+ghost use Rattle.flight_runner.specs.Tied.{IsSound};
+ghost use Rattle.flight_runner.specs.Round.{round_of};
+ghost use Rattle.flight_runner.specs.Flight.{IsNewVehicle, IsBegun};
+ghost use Rattle.flight_runner.specs.Flown.{IsFlownBoot, IsFlownPart};
 
-use crate::law::one_vehicle;
+use crate::law::{actors_run, one_vehicle};
 use crate::run::Run;
-use crate::store::MapStore;
 use mission_model::{Actor, BootScript, BootState, Counts, Line, Mark, PlanHead, Script};
+use plan_store::MapStore;
 use std::alloc::{AllocError, Global};
-use vehicle_core::Core;
+use vehicle_core::{Core, parts_fit};
 
 /// The boot of a script, which has one.
 pub fn only_boot(script: Script) -> BootScript
@@ -30,12 +33,13 @@ pub fn only_boot(script: Script) -> BootScript
 /// Flies the boot. The lines are there beside want of memory, too, as far as they came.
 pub fn fly(alloc: Global, boot: BootScript) -> (Vec<Line>, Result<(), AllocError>)
     requires { IsFlyableBoot boot }
-    ensures ok { OnOk result.1 (IsFlight boot result.0.items) }
-    ensures err { OnErr result.1 ((result.0.items ≡ []) ⊎ IsFlightSoFar boot result.0.items) }
+    ensures ok { OnOk result.1 (IsFlownBoot boot result.0.items) }
+    ensures err { OnErr result.1 ((result.0.items ≡ []) ⊎ IsFlownPart boot result.0.items) }
     ensures printable { OnOk result.1 (All IsPrintable result.0.items) }
     ensures vehicle { VehicleRun result.0.items }
 {
     one_vehicle();
+    actors_run();
     let Ok(round) = round(alloc, boot.links) else {
         return (Vec::new(alloc), Err(AllocError));
     };
@@ -53,10 +57,12 @@ pub fn fly(alloc: Global, boot: BootScript) -> (Vec<Line>, Result<(), AllocError
 /// The run of a boot before its first turn.
 fn begin(alloc: Global, boot: BootScript) -> Result<Run, AllocError>
     requires { IsFlyableBoot boot }
-    ensures { IfOk result (λ run. IsBegun boot run.core run.store run.lines.items) }
+    ensures begun { IfOk result (λ run. IsBegun boot run.core (held run.store) run.lines.items) }
+    ensures sound { IfOk result (λ run. IsSound run.core (held run.store)) }
 {
+    parts_fit();
     let state = new_vehicle();
-    let store = MapStore::new(alloc);
+    let store = MapStore::new(alloc)?;
     let core = Core::new(alloc, boot, &state)?;
     let mut lines = Vec::new(alloc);
     lines.push(Line::Boot {

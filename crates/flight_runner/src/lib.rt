@@ -11,15 +11,13 @@ mod law;
 mod print;
 mod run;
 mod status;
-mod store;
 #[cfg(test)]
 mod tests;
 mod words;
 
 pub use checking::check;
 pub use command::{flight, replay};
-pub use law::one_vehicle;
+pub use law::{actors_run, one_vehicle};
 pub use run_script::ScriptFault;
 pub use status::{Outcome, Status};
-pub use store::{MapStore, plans_change_whole};
 pub use wpl_items::WplFault;

@@ -3,12 +3,15 @@
 
 ghost use Rattle.std.specs.Prelude.{◌≡◌, IfOk, OnOk, OnErr};
 ghost use Rattle.vehicle_core.specs.WorkerLaw.{request_of};
+ghost use Rattle.vehicle_core.specs.CoreState.{CoreFits};
+ghost use Rattle.plan_store.specs.MapStore.{held};
 ghost use Rattle.flight_runner.specs.Turn.{Turn, WorkerTurn};
 ghost use Rattle.flight_runner.specs.Flight.{IsEnding};
-ghost use Rattle.flight_runner.specs.RunState.{Acted, ActedAll, SoFar, WentRound, Flew};
+ghost use Rattle.flight_runner.specs.Tied.{IsSound};
+ghost use Rattle.flight_runner.specs.RunState.{Acted, ActedAll, StoppedAmong, StoppedRound, WentRound, SoFar, Flew};
 
-use crate::store::MapStore;
 use mission_model::{Actor, Line};
+use plan_store::MapStore;
 use std::alloc::AllocError;
 use vehicle_core::{Core, StepOut};
 
@@ -24,8 +27,9 @@ impl Run {
     /// The stated turns, then rounds until one makes no line, then the line that ends the boot. Without memory the
     /// record ends with the last line that was made.
     pub fn fly(&mut self, turns: &[Actor], round: &[Actor]) -> Result<(), AllocError>
-        ensures ok { OnOk result (Flew self.old.core self.old.store turns.now round.now self.old.lines.items self.new.lines.items) }
-        ensures err { OnErr result (SoFar self.old.core self.old.store self.old.lines.items self.new.core self.new.store self.new.lines.items) }
+        requires { IsSound self.old.core (held self.old.store) }
+        ensures ok { OnOk result (Flew self.old.core (held self.old.store) turns.now round.now self.old.lines.items self.new.lines.items) }
+        ensures err { OnErr result (SoFar self.old.core (held self.old.store) turns.now round.now self.old.lines.items self.new.core (held self.new.store) self.new.lines.items) }
     {
         self.act_all(turns)?;
         self.go_round(round)?;
@@ -36,8 +40,10 @@ impl Run {
 
     /// Rounds of these actors, until one makes no line.
     fn go_round(&mut self, round: &[Actor]) -> Result<(), AllocError>
-        ensures ok { OnOk result (WentRound self.old.core self.old.store round.now self.old.lines.items self.new.core self.new.store self.new.lines.items) }
-        ensures err { OnErr result (SoFar self.old.core self.old.store self.old.lines.items self.new.core self.new.store self.new.lines.items) }
+        requires { IsSound self.old.core (held self.old.store) }
+        ensures ok { OnOk result (WentRound self.old.core (held self.old.store) round.now self.old.lines.items self.new.core (held self.new.store) self.new.lines.items) }
+        ensures sound { OnOk result (IsSound self.new.core (held self.new.store)) }
+        ensures err { OnErr result (StoppedRound self.old.core (held self.old.store) round.now self.old.lines.items self.new.core (held self.new.store) self.new.lines.items) }
     {
         loop {
             let before = self.lines.len();
@@ -50,8 +56,10 @@ impl Run {
 
     /// One turn of each of these actors, in their order.
     fn act_all(&mut self, actors: &[Actor]) -> Result<(), AllocError>
-        ensures ok { OnOk result (ActedAll self.old.core self.old.store actors.now self.old.lines.items self.new.core self.new.store self.new.lines.items) }
-        ensures err { OnErr result (SoFar self.old.core self.old.store self.old.lines.items self.new.core self.new.store self.new.lines.items) }
+        requires { IsSound self.old.core (held self.old.store) }
+        ensures ok { OnOk result (ActedAll self.old.core (held self.old.store) actors.now self.old.lines.items self.new.core (held self.new.store) self.new.lines.items) }
+        ensures sound { OnOk result (IsSound self.new.core (held self.new.store)) }
+        ensures err { OnErr result (StoppedAmong self.old.core (held self.old.store) actors.now self.old.lines.items self.new.core (held self.new.store) self.new.lines.items) }
     {
         for actor in actors {
             self.act(*actor)?;
@@ -61,13 +69,15 @@ impl Run {
 
     /// One turn of an actor, for whose line there is a place. Without memory nothing changes.
     fn act(&mut self, actor: Actor) -> Result<(), AllocError>
-        ensures ok { OnOk result (Acted self.old.core self.old.store actor self.old.lines.items self.new.core self.new.store self.new.lines.items) }
+        requires { IsSound self.old.core (held self.old.store) }
+        ensures ok { OnOk result (Acted self.old.core (held self.old.store) actor self.old.lines.items self.new.core (held self.new.store) self.new.lines.items) }
+        ensures sound { OnOk result (IsSound self.new.core (held self.new.store)) }
         ensures core { OnErr result (self.new.core ≡ self.old.core) }
-        ensures store { OnErr result (self.new.store ≡ self.old.store) }
+        ensures store { OnErr result (held self.new.store ≡ held self.old.store) }
         ensures lines { OnErr result (self.new.lines.items ≡ self.old.lines.items) }
     {
         self.lines.try_reserve(1)?;
-        match turn(&mut self.core, &mut self.store, actor)? {
+        match turn(&mut self.core, &mut self.store, actor) {
             StepOut::Idle => Ok(()),
             StepOut::Made(line) => match self.lines.push(line) {
                 Ok(()) => Ok(()),
@@ -88,27 +98,27 @@ impl Run {
     }
 }
 
-/// One turn of an actor. Without memory nothing changes.
-fn turn(core: &mut Core, store: &mut MapStore, actor: Actor) -> Result<StepOut<Line>, AllocError>
-    ensures ok { IfOk result (λ out. Turn core.old store.old actor out core.new store.new) }
-    ensures core { OnErr result (core.new ≡ core.old) }
-    ensures store { OnErr result (store.new ≡ store.old) }
+/// One turn of an actor.
+fn turn(core: &mut Core, store: &mut MapStore, actor: Actor) -> StepOut<Line>
+    requires { IsSound core.old (held store.old) }
+    ensures turn { Turn core.old (held store.old) actor result core.new (held store.new) }
+    ensures sound { IsSound core.new (held store.new) }
 {
     match actor {
         Actor::Worker => worker_turn(core, store),
-        other => Ok(core.step(other, None)),
+        other => core.step(other, None),
     }
 }
 
 /// The worker's turn: the request that it has taken is served by the store.
-fn worker_turn(core: &mut Core, store: &mut MapStore) -> Result<StepOut<Line>, AllocError>
-    ensures ok { IfOk result (λ out. WorkerTurn (request_of core.old.taken) core.old store.old out core.new store.new) }
-    ensures core { OnErr result (core.new ≡ core.old) }
-    ensures store { OnErr result (store.new ≡ store.old) }
+fn worker_turn(core: &mut Core, store: &mut MapStore) -> StepOut<Line>
+    requires { IsSound core.old (held store.old) }
+    ensures turn { WorkerTurn (request_of core.old.taken) core.old (held store.old) result core.new (held store.new) }
+    ensures fits { CoreFits core.new }
 {
     let Some(request) = core.taken() else {
-        return Ok(core.step(Actor::Worker, None));
+        return core.step(Actor::Worker, None);
     };
-    let reply = store.serve(request)?;
-    Ok(core.step(Actor::Worker, Some(reply)))
+    let reply = store.serve(&request);
+    core.step(Actor::Worker, Some(reply))
 }
