@@ -3,14 +3,7 @@
 # error; standard output must stay empty. Then runs its command `check`, and compares what it tells of a plan that is
 # accepted and of one that is refused. Usage: examples/endings.sh [PROGRAM]; `rt run` in crates/px4_flight leaves the
 # program there.
-set -euo pipefail
-[ $# -eq 0 ] || set -- "$(realpath "$1")"
-cd "$(dirname "$0")"
-work=$(mktemp -d)
-trap 'rm -rf "$work"' EXIT
-# A copy, since a program that the gate kept from an earlier run may lack the right to be run.
-program=$work/px4_flight
-install -m 755 "${1:-../crates/px4_flight/out/px4_flight}" "$program"
+. "$(dirname "$0")/built.sh"
 
 # ends NUMBER TEXT WORD..: the program with these words over the file $work/input.
 ends() {
