@@ -5,7 +5,7 @@
 ghost use Rattle.std.specs.Prelude.{◌≡◌};
 ghost use Rattle.px4_flight.specs.Flushed.{after_flush};
 
-use flight_runner::{Status, flight};
+use first_runner::{Status, flight};
 use io_edges::{Failed, StdSink, StdSource};
 use std::process::ExitCode;
 use std::{env, io};

@@ -1,0 +1,4 @@
+mod Clients
+mod Effects
+mod Sound
+mod Order

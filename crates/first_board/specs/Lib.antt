@@ -1,0 +1,4 @@
+pub mod BoardState
+pub mod BoardCalls
+pub mod Kept
+pub mod BoardLaw

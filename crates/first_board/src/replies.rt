@@ -1,0 +1,59 @@
+//! The replies that are posted to one client and not taken yet, the first posted first.
+
+ghost use Rattle.std.specs.Prelude.{◌≡◌, ◌<◌, [], ◌∷◌, ◌++◌, length, IfOk, IfNone, IfSome};
+ghost use Rattle.first_model.specs.declared.limits.TheConstants.{NAV_ROOM};
+
+use circular_buffer::HeapCircularBuffer;
+use first_model::limits::NAV_ROOM;
+use first_model::{Asked, Reply};
+use std::alloc::{AllocError, Global};
+use std::marker::Model;
+
+/// One client's replies: as many as the client with the highest limit may have outstanding.
+#[derive(Drop)]
+pub struct Replies {
+    ring: HeapCircularBuffer<(Asked, Reply)>,
+}
+
+impl Model for Replies {
+    ghost use Rattle.std.specs.Prelude.{◌≡◌, List};
+    ghost use Rattle.first_model.specs.declared.request.Asked.{Asked};
+    ghost use Rattle.first_model.specs.declared.request.Reply.{Reply};
+    ghost use Rattle.first_model.specs.declared.limits.TheConstants.{NAV_ROOM};
+
+    ghost Value = { List (Asked × Reply) };
+
+    ghost view = { λ a. a.ring.items };
+
+    ghost invariant = { λ a. a.ring.capacity ≡ NAV_ROOM };
+}
+
+impl Replies {
+    pub fn new(alloc: Global) -> Result<Replies, AllocError>
+        ensures { IfOk result (λ replies. replies ≡ []) }
+    {
+        Ok(Replies {
+            ring: HeapCircularBuffer::with_capacity(alloc, NAV_ROOM as usize)?,
+        })
+    }
+
+    pub fn len(&self) -> usize
+        ensures { result ≡ length self.now }
+    {
+        self.ring.len()
+    }
+
+    pub fn push(&mut self, asked: Asked, reply: Reply)
+        requires { length self.old < NAV_ROOM }
+        ensures { self.new ≡ self.old ++ (asked, reply) ∷ [] }
+    {
+        self.ring.push_back((asked, reply));
+    }
+
+    pub fn take_first(&mut self) -> Option<(Asked, Reply)>
+        ensures none { IfNone result ((self.old ≡ []) × (self.new ≡ [])) }
+        ensures some { IfSome result (λ first. self.old ≡ first ∷ self.new) }
+    {
+        self.ring.pop_front()
+    }
+}

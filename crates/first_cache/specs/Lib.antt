@@ -1,0 +1,4 @@
+pub mod CacheState
+pub mod Settled
+pub mod Wants
+pub mod Moves

@@ -1,0 +1,5 @@
+pub mod Cutting
+pub mod Checks
+pub mod WholePlan
+pub mod Moved
+pub mod Places

@@ -1,0 +1,15 @@
+pub mod Pairs
+pub mod CountsList
+pub mod PlainMark
+pub mod Command
+pub mod ItemCode
+pub mod PlanCode
+pub mod PlanCheck
+pub mod Fence
+pub mod Landing
+pub mod Returns
+pub mod CommandRows
+pub mod ValidPlan
+pub mod Legs
+pub mod PlainMission
+pub mod Feasible

@@ -1,0 +1,24 @@
+-- One more text joined to those of the elements before a place.
+use Rattle.std.proofs.Common.{◌≡◌, ℕ, ◌+◌, Some, List, [], ◌∷◌, ◌++◌, take, get_or, ◌∙◌, ap, append-nil, append_assoc, Result, OnOk}
+use Rattle.std.specs.List.{slice_get, flat_map}
+use Rattle.std.proofs.lemmas.List.{take_more}
+use Rattle.std.proofs.lemmas.Result.{on_ok_weaker}
+use Rattle.std.proofs.lemmas.List.Concat.{flat_map-append}
+use Rattle.std.proofs.lemmas.Option.{get_or_from_slice_get, slice_get_within}
+
+-- the texts before i + 1 are those before i, and then the one at i
+pub flat_map-take_more : {X : Type 0} (text : X → List ℕ) (xs : List X) (i : ℕ) (x : X)
+    → slice_get xs i ≡ Some x → flat_map text (take (i + 1) xs) ≡ flat_map text (take i xs) ++ text x
+flat_map-take_more text xs i x there =
+    let more = take_more xs i x (slice_get_within xs i x there) in
+    let same = get_or_from_slice_get xs i x x there in
+    ap (flat_map text) more
+    ∙ flat_map-append text (take i xs) (get_or xs i x ∷ [])
+    ∙ ap (λ y. flat_map text (take i xs) ++ (text y ++ [])) same
+    ∙ ap (λ t. flat_map text (take i xs) ++ t) (append-nil (text x))
+
+-- what follows a first part, where it is pushed behind it, is pushed with it
+pub pushed_after : {T E : Type 0} (r : Result T E) (old mid new first rest : List ℕ)
+    → mid ≡ old ++ first → OnOk r (new ≡ mid ++ rest) → OnOk r (new ≡ old ++ (first ++ rest))
+pushed_after r old mid new first rest front behind =
+    on_ok_weaker r (λ h. h ∙ ap (λ t. t ++ rest) front ∙ append_assoc old first rest) behind

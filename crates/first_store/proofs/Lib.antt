@@ -1,0 +1,4 @@
+pub mod ItemThere
+pub mod Wholes
+pub mod Compared
+pub mod Failures

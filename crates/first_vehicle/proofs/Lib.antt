@@ -1,0 +1,3 @@
+pub mod FirstBy
+pub mod Writing
+pub mod Reading

@@ -1,0 +1,12 @@
+pub mod Digits
+pub mod Results
+pub mod Numbers
+pub mod RowValues
+pub mod RowSteps
+pub mod FieldSteps
+pub mod BlankEnds
+pub mod Jumps
+pub mod Writes
+pub mod PrintedWords
+pub mod RowBack
+pub mod PlanBack

@@ -1,8 +1,0 @@
--- The schedules of the links before this place are finished.
-use Rattle.std.proofs.Common.{take}
-use Rattle.std.specs.List.{All}
-use Rattle.vehicle_core.specs.CoreState.{LinkFinished}
-use Rattle.vehicle_core.proofs.boot_core.Core.is_finished.Given as goal
-
-abbrev pub invariant-loop-link : goal.invariant-loop-link
-invariant-loop-link l = All LinkFinished (take l.link-index l.link-items)
