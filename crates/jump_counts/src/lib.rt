@@ -2,13 +2,11 @@
 //! used, the item says how often in all.
 #![tactic(auto)]
 
-ghost use Rattle.std.specs.Prelude.{◌≡◌, true, ◌<◌, ◌⊎◌, length};
 ghost use Rattle.mission_model.specs.CountsList.{pairs_of};
-ghost use Rattle.mission_model.specs.Pairs.{has_pair};
+ghost use Rattle.mission_model.specs.Pairs.{Takes};
 ghost use Rattle.jump_counts.specs.TakesJump.{TakesJump};
 
 use mission_model::Counts;
-use mission_model::limits::MAX_JUMPS;
 
 /// What became of a jump.
 #[derive(Clone, Copy, Debug, PartialEq, Eq)]
@@ -21,7 +19,7 @@ pub enum JumpAnswer {
 
 /// Uses the jump at a seq once more, if some of its repeats are left.
 pub fn take_jump(counts: &mut Counts, seq: u16, repeats: u16) -> JumpAnswer
-    requires { (has_pair (pairs_of counts.old) seq ≡ true) ⊎ (length (pairs_of counts.old) < MAX_JUMPS) }
+    requires { Takes (pairs_of counts.old) seq }
     ensures { TakesJump counts.old seq repeats result counts.new }
 {
     let used = counts.used(seq);
@@ -50,7 +48,7 @@ mod tests {
         ];
         let mut counts = Counts::new();
         for (seq, repeats, answer, first, second) in rows {
-            assert!(rt; counts.len() < 16, "room at {seq}");
+            assert!(rt; counts.takes(seq), "room at {seq}");
             assert_eq!(rt;
                 take_jump(&mut counts, seq, repeats),
                 answer,

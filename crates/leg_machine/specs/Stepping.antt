@@ -1,11 +1,10 @@
 -- What a step of the machine may be given, and what it does in the mission.
-use Rattle.std.specs.Prelude.{◌≡◌, ◌<◌, ◌⊎◌, ◌==◌, Bool, true, false, not, List, Option, Some, None, length, slice_get, IfSome}
-use Rattle.mission_model.specs.declared.limits.TheConstants.{MAX_JUMPS}
+use Rattle.std.specs.Prelude.{◌≡◌, ◌<◌, ◌==◌, Bool, false, not, List, Option, Some, None, length, slice_get, IfSome}
 use Rattle.mission_model.specs.declared.command.TheConstants.{DO_JUMP, NAV_LOITER_UNLIM}
 use Rattle.mission_model.specs.declared.plan.Item.{Item}
 use Rattle.mission_model.specs.declared.vehicle.Look.{Look}
 use Rattle.mission_model.specs.declared.vehicle.Look.TheVariants.{Here, Pending}
-use Rattle.mission_model.specs.Pairs.{has_pair}
+use Rattle.mission_model.specs.Pairs.{Takes}
 use Rattle.mission_model.specs.Legs.{LegEvent, LegStep}
 use Rattle.mission_model.specs.Legs as event
 use Rattle.leg_machine.specs.declared.machine.LegOut.{LegOut}
@@ -20,7 +19,7 @@ ShowsItem s Pending = Unit {0}
 
 -- a jump that is shown has a pair, or there is room for one
 abbrev pub HasRoom : MachineState → Look → Type 0
-HasRoom s (Here item) = s.index < s.count → item.command ≡ DO_JUMP → (has_pair s.pairs s.index ≡ true) ⊎ (length s.pairs < MAX_JUMPS)
+HasRoom s (Here item) = s.index < s.count → item.command ≡ DO_JUMP → Takes s.pairs s.index
 HasRoom s Pending = Unit {0}
 
 -- the mission has these items, and what is shown, if anything, is the one at the index

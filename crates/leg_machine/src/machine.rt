@@ -1,16 +1,15 @@
 //! The machine. A leg stays at its index until it is reached; all else moves on at once.
 
-ghost use Rattle.std.specs.Prelude.{◌≡◌, ◌<◌, ◌≤◌, ◌↔◌, ◌⊎◌, ◌+◌, true, IsTrue, List, length};
+ghost use Rattle.std.specs.Prelude.{◌≡◌, ◌<◌, ◌≤◌, ◌↔◌, ◌⊎◌, ◌+◌, true, IsTrue, List};
 ghost use Rattle.mission_model.specs.declared.plan.Item.{Item as ItemValue};
 ghost use Rattle.mission_model.specs.CountsList.{pairs_of};
-ghost use Rattle.mission_model.specs.Pairs.{has_pair};
+ghost use Rattle.mission_model.specs.Pairs.{Takes};
 ghost use Rattle.leg_machine.specs.MachineState.{made, set_to, after_reached};
 ghost use Rattle.leg_machine.specs.Stepping.{ShowsItem, HasRoom, ShowsOf, Steps, at_leg_after};
 ghost use Rattle.leg_machine.specs.AtItem.{LeadsWithin, StepsAt, Jumps};
 
 use jump_counts::{JumpAnswer, take_jump};
 use mission_model::command::{Jump, NAV_LOITER_UNLIM, is_leg, jump_of};
-use mission_model::limits::MAX_JUMPS;
 use mission_model::{Counts, Item, Look};
 use std::marker::Model;
 
@@ -147,7 +146,7 @@ impl LegMachine {
     fn jump(&mut self, jump: Jump) -> LegOut
         requires within { self.old.index < self.old.count }
         requires target { jump.target < self.old.count }
-        requires room { (has_pair self.old.pairs self.old.index ≡ true) ⊎ (length self.old.pairs < MAX_JUMPS) }
+        requires room { Takes self.old.pairs self.old.index }
         ensures { Jumps jump self.old result self.new }
     {
         let seq = self.index;

@@ -1,10 +1,6 @@
 -- What a check knows of the items that it has accepted is what the definitions say of the list.
-use Rattle.std.proofs.Common.{◌≡◌, ℕ, zero, suc, ◌+◌, ◌-◌, ◌<◌, ◌≤◌, Bool, true, false, cond, List, [], ◌∷◌, ◌++◌, Option, Some, None, Result, Ok, Err, find, length, take, drop, unwrap_or, nat_lt, nat_le, is_some, count_by, refl, sym, ap, subst, ◌∙◌, arith, length-append, zero-add, if◌then◌else◌, inl, inr, ◌⊎◌}
-use Rattle.std.specs.List.{slice_get}
-use Rattle.std.proofs.lemmas.Option.{slice_get_within}
-use Rattle.std.proofs.lemmas.List.{take_all, take-append-le}
+use Rattle.std.proofs.Common.{◌≡◌, ℕ, ◌+◌, ◌-◌, Bool, true, false, cond, List, [], ◌∷◌, ◌++◌, Option, Some, None, Ok, Err, length, nat_lt, is_some, refl, sym, ap, ◌∙◌, arith, length-append, zero-add, if◌then◌else◌}
 use Rattle.std.proofs.lemmas.List.Sums.{sum_by-append}
-use Rattle.std.proofs.lemmas.Bool.{cases_lt}
 use Rattle.std.proofs.lemmas.Bool.Decides.{nat_tests}
 use Rattle.mission_model.specs.declared.plan.PlanType.{PlanType}
 use Rattle.mission_model.specs.declared.plan.PlanType.TheVariants.{Mission, Fence, Safe}
@@ -14,8 +10,9 @@ use Rattle.mission_model.specs.declared.plan_check.OpenPolygon.{OpenPolygon}
 use Rattle.mission_model.specs.declared.plan_check.PlanCheck.{PlanCheck}
 use Rattle.mission_model.specs.Command.{jump_of, vertex_count}
 use Rattle.mission_model.specs.ItemCode.{ItemCode, answer_of}
-use Rattle.mission_model.specs.PlanCode.{PlanCode, Accepted, jumps_in, jump_code_at, open_polygon, lacks_vertices, vertex_code_in, code_or}
-use Rattle.mission_model.specs.PlanCheck.{Checked, Takes, kept_part, vertex_code_by, polygon_with, one_fewer}
+use Rattle.mission_model.specs.PlanCode.{PlanCode, jumps_in, jump_code_at, open_polygon, vertex_code_in, code_or}
+use Rattle.mission_model.specs.PlanCheck.{Checked, kept_part, vertex_code_by, polygon_with}
+use Rattle.mission_model.specs.AcceptedMore.{Accepted-append}
 use Rattle.mission_model.proofs.Cutting.{still_open, open_polygon-nil, open_polygon-append}
 
 -- the code of a vertex by what is kept of the polygon
@@ -47,29 +44,6 @@ kept_part-grown (first ∷ rest) item =
 
 jumps_in-append : (items : List Item) (item : Item) → jumps_in (items ++ item ∷ []) ≡ jumps_in items + (if is_some (jump_of item) then 1 else 0)
 jumps_in-append items item = sum_by-append (λ x. if is_some (jump_of x) then 1 else 0) items (item ∷ []) ∙ ap (λ n. jumps_in items + n) (zero-add (if is_some (jump_of item) then 1 else 0))
-
-slice_get-append : (items more : List Item) (place : ℕ) → place < length items → slice_get (items ++ more) place ≡ slice_get items place
-slice_get-append [] more place h = absurd (omega arith)
-slice_get-append (item ∷ items) more zero h = refl
-slice_get-append (item ∷ items) more (suc place) h = slice_get-append items more place (omega arith)
-
-slice_get-last : (items : List Item) (item : Item) → slice_get (items ++ item ∷ []) (length items) ≡ Some item
-slice_get-last [] item = refl
-slice_get-last (first ∷ items) item = slice_get-last items item
-
-some_same : {a b : Item} → Some a ≡ Some b → a ≡ b
-some_same h = cc
-
--- one more item that has no code
-Accepted-append : (kind : PlanType) (count : ℕ) (items : List Item) (item : Item) → Accepted kind count items → PlanCode kind count items item ≡ None → Accepted kind count (items ++ item ∷ [])
-Accepted-append kind count items item accepted none place other h = elim (cases_lt place (length items)) [
-  | inl before ↦ ap (λ l. PlanCode kind count l other) (take-append-le place items (item ∷ []) (omega arith)) ∙ accepted place other (sym (slice_get-append items (item ∷ []) place before) ∙ h)
-  | inr past ↦
-      let at_end : place ≡ length items = omega (arith, slice_get_within (items ++ item ∷ []) place other h, length-append items (item ∷ [])) in
-      let same : item ≡ other = some_same (sym (slice_get-last items item) ∙ ap (slice_get (items ++ item ∷ [])) (sym at_end) ∙ h) in
-      ap (λ l. PlanCode kind count l other) (ap (λ n. take n (items ++ item ∷ [])) at_end ∙ take-append-le (length items) items (item ∷ []) (omega arith) ∙ take_all (length items) items (omega arith))
-      ∙ ap (PlanCode kind count items) (sym same) ∙ none
-]
 
 -- the code that an item has for its place, by the fields of a check
 abbrev code_here : PlanType → PlanCheck → Item → Option AckCode

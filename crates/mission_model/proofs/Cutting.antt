@@ -1,11 +1,11 @@
 -- A fence cut into polygons, with one more vertex at its end.
-use Rattle.std.proofs.Common.{◌≡◌, ℕ, zero, suc, ◌+◌, ◌-◌, ◌<◌, ◌≤◌, Bool, true, false, cond, List, [], ◌∷◌, ◌++◌, Option, Some, None, find, length, take, drop, unwrap_or, nat_lt, refl, sym, ap, ◌∙◌, arith, length-append, length-take, length-drop, if◌then◌else◌, inl, inr, ◌⊎◌}
-use Rattle.std.proofs.lemmas.List.{take_all, drop_all, take-append-le, drop-append-le, length-take-le}
+use Rattle.std.proofs.Common.{◌≡◌, ℕ, zero, suc, ◌+◌, ◌-◌, ◌<◌, ◌≤◌, Bool, true, false, cond, List, [], ◌∷◌, ◌++◌, Some, None, find, length, take, drop, unwrap_or, nat_lt, refl, sym, ap, ◌∙◌, arith, length-append, length-drop, if◌then◌else◌, inl, inr}
+use Rattle.std.proofs.lemmas.List.{take_all, drop_all, drop-append-le, length-take-le}
 use Rattle.std.proofs.lemmas.Bool.{cases_lt}
 use Rattle.std.proofs.lemmas.Bool.Decides.{nat_tests}
 use Rattle.mission_model.specs.declared.plan.Item.{Item}
 use Rattle.mission_model.specs.Command.{vertex_count}
-use Rattle.mission_model.specs.PlanCode.{groups_within, polygons_of, lacks_vertices, open_polygon}
+use Rattle.mission_model.specs.PlanCode.{groups_within, lacks_vertices, open_polygon}
 
 -- a group stays open while it lacks vertices
 abbrev pub still_open : List Item → List Item

@@ -1,10 +1,8 @@
 -- A part of a list that was moved on by one place, with a value put at its beginning.
-use Rattle.std.proofs.Common.{◌≡◌, ℕ, suc, ◌+◌, ◌-◌, ◌<◌, ◌≤◌, List, [], ◌∷◌, ◌++◌, length, take, drop, set, get_or, refl, arith, sym, ◌∙◌, ap, length-take, length-drop, length-append, length-set, take-take, min}
+use Rattle.std.proofs.Common.{◌≡◌, ℕ, suc, ◌+◌, ◌-◌, ◌<◌, ◌≤◌, List, [], ◌∷◌, ◌++◌, length, take, drop, set, get_or, refl, arith, length-take, length-drop, take-take}
 use Rattle.std.proofs.Math.Seq.{drop-cons}
 use Rattle.std.proofs.Math.ListN.{drop_of_length-le}
 use Rattle.std.proofs.lemmas.List.{drop-take}
-use Rattle.std.proofs.lemmas.Slice.{take-put_mid, drop-put_mid}
-use borrow.Rule.Slice.PartMut.{put_mid}
 
 -- the last element in front of the others, and a value in its place
 pub set-moved : {X : Type 0} (ys : List X) (m : ℕ) (v d : X) → length ys ≡ suc m → set (drop m ys ++ take m ys) 0 v ≡ v ∷ take m ys

@@ -1,22 +1,15 @@
 -- The table of commands as definitions read it, and what an item says by its command and parameters.
-use Rattle.std.specs.Prelude.{ℕ, ◌/◌, ◌%◌, ◌^◌, ℤ, pos, negsuc, Bool, true, false, not, ◌&&◌, ◌||◌, List, Option, Some, None, find, unwrap_or, nat_le, ◌==◌, int_le, if◌then◌else◌, IsTrue}
+use Rattle.std.specs.Prelude.{ℕ, ◌/◌, ◌%◌, pos, negsuc, Bool, false, not, ◌&&◌, ◌||◌, List, Option, Some, None, find, unwrap_or, nat_le, ◌==◌, int_le, if◌then◌else◌, IsTrue}
 use Rattle.std.specs.List.{list_any}
 use Rattle.std.specs.Ordering.{int_eq}
 use Rattle.mission_model.specs.declared.plan.PlanType.{PlanType}
-use Rattle.mission_model.specs.declared.plan.PlanType.TheVariants.{Mission, Fence, Safe}
 use Rattle.mission_model.specs.declared.plan.Param.{Param}
 use Rattle.mission_model.specs.declared.plan.Param.TheVariants.{Unset, Milli}
 use Rattle.mission_model.specs.declared.plan.Item.{Item}
 use Rattle.mission_model.specs.declared.command.CommandRule.{CommandRule}
+pub use Rattle.mission_model.specs.PlanTypes.{is_kind}
 use Rattle.mission_model.specs.declared.command.Jump.{Jump}
 use Rattle.mission_model.specs.declared.command.TheConstants.{COMMANDS, NAV_TAKEOFF, NAV_LAND, DO_JUMP, MILLI}
-
--- two plan types are the same
-abbrev pub is_kind : PlanType → PlanType → Bool
-is_kind Mission Mission = true
-is_kind Fence Fence = true
-is_kind Safe Safe = true
-is_kind _ _ = false
 
 -- the first of these rows that is of this plan type and command
 abbrev pub rule_among : List CommandRule → PlanType → ℕ → Option CommandRule

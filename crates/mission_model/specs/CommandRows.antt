@@ -1,9 +1,7 @@
 -- The rule of each command, read off the table, and what it says of an item without a code.
-use Rattle.std.specs.Prelude.{◌≡◌, ℕ, Bool, true, false, Option, Some, None, IsSome, refl}
+use Rattle.std.specs.Prelude.{◌≡◌, ℕ, Bool, true, false, Some, refl}
 use Rattle.mission_model.specs.declared.plan.PlanType.{PlanType}
 use Rattle.mission_model.specs.declared.plan.PlanType.TheVariants.{Mission, Fence, Safe}
-use Rattle.mission_model.specs.declared.plan.Item.{Item}
-use Rattle.mission_model.specs.declared.command.CommandRule.{CommandRule}
 use Rattle.mission_model.specs.declared.command.ParamRule.{ParamRule}
 use Rattle.mission_model.specs.declared.command.ParamRule.TheVariants.{Any, UnsetOrNotNegative, NotNegative, Whole}
 use Rattle.mission_model.specs.declared.command.TheConstants.{NAV_WAYPOINT, NAV_LOITER_UNLIM, NAV_LOITER_TURNS, NAV_LOITER_TIME, NAV_RETURN_TO_LAUNCH, NAV_LAND, NAV_TAKEOFF, NAV_DELAY, DO_JUMP, DO_CHANGE_SPEED, DO_LAND_START, NAV_FENCE_POLYGON_VERTEX_INCLUSION, NAV_FENCE_POLYGON_VERTEX_EXCLUSION, NAV_RALLY_POINT}

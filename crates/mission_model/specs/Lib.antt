@@ -1,3 +1,4 @@
+pub mod PlanTypes
 pub mod Pairs
 pub mod CountsList
 pub mod PlainMark
@@ -5,11 +6,16 @@ pub mod Command
 pub mod ItemCode
 pub mod PlanCode
 pub mod PlanCheck
+pub mod AcceptedMore
+pub mod Shown
+pub mod Replies
+pub mod BootScripts
+pub mod BootStates
 pub mod Fence
 pub mod Landing
 pub mod Returns
 pub mod CommandRows
 pub mod ValidPlan
+pub mod CheckedPlans
 pub mod Legs
-pub mod PlainMission
 pub mod Feasible

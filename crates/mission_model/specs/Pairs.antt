@@ -1,5 +1,5 @@
 -- Pairs of a jump's seq and its used number: how a list of them is kept, looked up and changed.
-use Rattle.std.specs.Prelude.{ℕ, ◌+◌, Bool, true, false, ◌&&◌, List, [], ◌∷◌, length, get_or, take, drop, nat_le, nat_lt, ◌==◌, if◌then◌else◌}
+use Rattle.std.specs.Prelude.{◌≡◌, ◌⊎◌, ℕ, ◌+◌, ◌<◌, Bool, true, false, ◌&&◌, List, [], ◌∷◌, length, get_or, take, drop, nat_le, nat_lt, ◌==◌, if◌then◌else◌}
 use Rattle.mission_model.specs.declared.limits.TheConstants.{MAX_JUMPS}
 
 -- the seqs rise from this one on, and each used number is at least 1
@@ -26,6 +26,10 @@ abbrev pub has_pair : List (ℕ × ℕ) → ℕ → Bool
 has_pair [] seq = false
 has_pair ((other, used) ∷ pairs) seq = if other == seq then true else has_pair pairs seq
 
+-- the seq has a pair among them, or one more pair finds room
+abbrev pub Takes : List (ℕ × ℕ) → ℕ → Type 0
+Takes pairs seq = (has_pair pairs seq ≡ true) ⊎ (length pairs < MAX_JUMPS)
+
 -- the pairs with this used number for the seq, in its place among rising seqs
 abbrev pub with_pair : List (ℕ × ℕ) → ℕ → ℕ → List (ℕ × ℕ)
 with_pair [] seq used = (seq, used) ∷ []
@@ -33,9 +37,9 @@ with_pair ((other, count) ∷ pairs) seq used =
     if other == seq then (seq, used) ∷ pairs else (if nat_lt seq other then (seq, used) ∷ (other, count) ∷ pairs else (other, count) ∷ with_pair pairs seq used)
 
 -- how many of the first pairs are of lesser seqs
-abbrev pub place_of : List (ℕ × ℕ) → ℕ → ℕ
-place_of [] seq = 0
-place_of ((other, used) ∷ pairs) seq = if nat_lt other seq then 1 + place_of pairs seq else 0
+abbrev pub pair_place : List (ℕ × ℕ) → ℕ → ℕ
+pair_place [] seq = 0
+pair_place ((other, used) ∷ pairs) seq = if nat_lt other seq then 1 + pair_place pairs seq else 0
 
 -- the pair at the place is the seq's
 abbrev pub is_at : List (ℕ × ℕ) → ℕ → ℕ → Bool

@@ -1,7 +1,7 @@
 -- What a check of a plan, item by item, stands for.
-use Rattle.std.specs.Prelude.{◌≡◌, ℕ, ◌+◌, ◌-◌, ◌<◌, Bool, true, false, ◌&&◌, List, [], ◌∷◌, ◌++◌, Option, Some, None, Result, Ok, Err, length, nat_le, nat_lt, ◌==◌, if◌then◌else◌}
+use Rattle.std.specs.Prelude.{◌≡◌, ℕ, ◌+◌, ◌-◌, ◌<◌, ◌&&◌, List, [], ◌∷◌, ◌++◌, Option, Some, None, Result, Ok, Err, length, nat_le, nat_lt, ◌==◌, if◌then◌else◌}
 use Rattle.mission_model.specs.declared.plan.PlanType.{PlanType}
-use Rattle.mission_model.specs.declared.plan.PlanType.TheVariants.{Mission, Fence, Safe}
+use Rattle.mission_model.specs.declared.plan.PlanType.TheVariants.{Mission, Fence}
 use Rattle.mission_model.specs.declared.plan.Item.{Item}
 use Rattle.mission_model.specs.declared.message.AckCode.{AckCode}
 use Rattle.mission_model.specs.declared.message.AckCode.TheVariants as ack

@@ -1,7 +1,7 @@
 -- The code of an item at its place in a plan, and what a valid plan is.
-use Rattle.std.specs.Prelude.{◌≡◌, ℕ, zero, suc, ◌+◌, ◌-◌, ◌≤◌, ◌<◌, Bool, true, false, not, ◌&&◌, List, [], ◌∷◌, Option, Some, None, length, take, drop, find, count_by, is_some, unwrap_or, slice_get, nat_le, nat_lt, ◌==◌, if◌then◌else◌}
+use Rattle.std.specs.Prelude.{◌≡◌, ℕ, zero, suc, ◌+◌, ◌-◌, ◌≤◌, Bool, true, false, not, ◌&&◌, List, [], ◌∷◌, Option, Some, None, length, take, drop, find, count_by, is_some, unwrap_or, slice_get, nat_le, nat_lt, ◌==◌, if◌then◌else◌}
 use Rattle.std.specs.Ordering.{int_eq}
-use Rattle.mission_model.specs.declared.limits.TheConstants.{MAX_JUMPS, MAX_MISSION_ITEMS, MAX_FENCE_VERTICES, MAX_SAFE_POINTS}
+use Rattle.mission_model.specs.declared.limits.TheConstants.{MAX_JUMPS}
 use Rattle.mission_model.specs.declared.plan.PlanType.{PlanType}
 use Rattle.mission_model.specs.declared.plan.PlanType.TheVariants.{Mission, Fence, Safe}
 use Rattle.mission_model.specs.declared.plan.Param.{Param}
@@ -12,12 +12,7 @@ use Rattle.mission_model.specs.declared.message.AckCode.TheVariants as ack
 use Rattle.mission_model.specs.declared.command.Jump.{Jump}
 use Rattle.mission_model.specs.Command.{jump_of, vertex_count}
 use Rattle.mission_model.specs.ItemCode.{ItemCode}
-
--- the greatest number of items of a plan of this type
-abbrev pub limit_of : PlanType → ℕ
-limit_of Mission = MAX_MISSION_ITEMS
-limit_of Fence = MAX_FENCE_VERTICES
-limit_of Safe = MAX_SAFE_POINTS
+pub use Rattle.mission_model.specs.PlanTypes.{limit_of}
 
 -- how many of the items are jumps
 abbrev pub jumps_in : List Item → ℕ

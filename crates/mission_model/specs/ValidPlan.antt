@@ -1,5 +1,5 @@
 -- What the absence of a code says: of an item that a plan may hold, and of the jumps of a valid plan.
-use Rattle.std.specs.Prelude.{◌≡◌, ◌≢◌, ℕ, zero, suc, ◌+◌, ◌*◌, ◌/◌, ◌%◌, ◌≤◌, ◌<◌, Bool, true, false, not, ◌&&◌, cond, List, [], ◌∷◌, ◌++◌, Option, Some, None, IsSome, is_some, length, take, slice_get, nat_le, nat_lt, ◌==◌, if◌then◌else◌, pos, negsuc, refl}
+use Rattle.std.specs.Prelude.{◌≡◌, ◌≢◌, ℕ, ◌*◌, ◌/◌, ◌%◌, ◌<◌, Bool, true, false, not, ◌&&◌, cond, List, Option, Some, None, IsSome, length, take, slice_get, nat_le, nat_lt, ◌==◌, pos, refl}
 use Rattle.std.proofs.Common.{sym, ap, subst, ◌∙◌, arith}
 use Rattle.std.proofs.lemmas.Bool.{eqb-true}
 use Rattle.std.proofs.lemmas.Bool.Decides.{nat_tests}
@@ -7,7 +7,7 @@ use Rattle.std.proofs.lemmas.List.{length-take-le}
 use Rattle.std.proofs.lemmas.Option.{slice_get_within}
 use Rattle.mission_model.specs.declared.limits.TheConstants.{MAX_JUMPS}
 use Rattle.mission_model.specs.declared.plan.PlanType.{PlanType}
-use Rattle.mission_model.specs.declared.plan.PlanType.TheVariants.{Mission, Fence, Safe}
+use Rattle.mission_model.specs.declared.plan.PlanType.TheVariants.{Mission}
 use Rattle.mission_model.specs.declared.plan.Param.TheVariants.{Milli}
 use Rattle.mission_model.specs.declared.plan.Item.{Item}
 use Rattle.mission_model.specs.declared.message.AckCode.{AckCode}

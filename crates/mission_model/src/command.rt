@@ -8,42 +8,43 @@ ghost use Rattle.mission_model.specs.Legs.{is_leg};
 
 use crate::plan::{Item, Param, PlanType};
 
+/// MAV_CMD_NAV_WAYPOINT: flies to a place.
 pub const NAV_WAYPOINT: u16 = 16;
-
+/// MAV_CMD_NAV_LOITER_UNLIM: loiters at a place without an end.
 pub const NAV_LOITER_UNLIM: u16 = 17;
-
+/// MAV_CMD_NAV_LOITER_TURNS: loiters at a place for so many turns.
 pub const NAV_LOITER_TURNS: u16 = 18;
-
+/// MAV_CMD_NAV_LOITER_TIME: loiters at a place for so long.
 pub const NAV_LOITER_TIME: u16 = 19;
-
+/// MAV_CMD_NAV_RETURN_TO_LAUNCH: begins the return.
 pub const NAV_RETURN_TO_LAUNCH: u16 = 20;
-
+/// MAV_CMD_NAV_LAND: lands at a place.
 pub const NAV_LAND: u16 = 21;
-
+/// MAV_CMD_NAV_TAKEOFF: takes off and flies to a place.
 pub const NAV_TAKEOFF: u16 = 22;
-
+/// MAV_CMD_NAV_DELAY: waits.
 pub const NAV_DELAY: u16 = 93;
-
+/// MAV_CMD_DO_JUMP: goes on at another item, so many times.
 pub const DO_JUMP: u16 = 177;
-
+/// MAV_CMD_DO_CHANGE_SPEED: changes the speed.
 pub const DO_CHANGE_SPEED: u16 = 178;
-
+/// MAV_CMD_DO_LAND_START: marks where the way to a landing begins.
 pub const DO_LAND_START: u16 = 189;
-
+/// MAV_CMD_NAV_FENCE_POLYGON_VERTEX_INCLUSION: a corner of a polygon to stay within.
 pub const NAV_FENCE_POLYGON_VERTEX_INCLUSION: u16 = 5001;
-
+/// MAV_CMD_NAV_FENCE_POLYGON_VERTEX_EXCLUSION: a corner of a polygon to stay out of.
 pub const NAV_FENCE_POLYGON_VERTEX_EXCLUSION: u16 = 5002;
-
+/// MAV_CMD_NAV_RALLY_POINT: a safe point.
 pub const NAV_RALLY_POINT: u16 = 5100;
-
+/// MAV_FRAME_GLOBAL: heights over the sea.
 pub const FRAME_GLOBAL: u16 = 0;
-
+/// MAV_FRAME_MISSION: no place at all.
 pub const FRAME_MISSION: u16 = 2;
-
+/// MAV_FRAME_GLOBAL_RELATIVE_ALT: heights over the home.
 pub const FRAME_GLOBAL_RELATIVE_ALT: u16 = 3;
-
+/// MAV_FRAME_GLOBAL_INT: as MAV_FRAME_GLOBAL.
 pub const FRAME_GLOBAL_INT: u16 = 5;
-
+/// MAV_FRAME_GLOBAL_RELATIVE_ALT_INT: as MAV_FRAME_GLOBAL_RELATIVE_ALT.
 pub const FRAME_GLOBAL_RELATIVE_ALT_INT: u16 = 6;
 
 /// The frames of a command with a position. The others take `FRAME_MISSION` as well.

@@ -1,11 +1,11 @@
 //! How often each jump of a mission was taken, and the mark that is kept over a restart.
 
-ghost use Rattle.mission_model.specs.Pairs.{is_kept, used_of, with_pair, place_of, is_at};
+ghost use Rattle.mission_model.specs.Pairs.{is_kept, has_pair, used_of, with_pair, pair_place, is_at};
 ghost use Rattle.std.specs.Prelude.{◌≡◌, true, ◌<◌, ◌≤◌, ◌⊎◌, ◌∷◌, ◌++◌, ◌+◌, length, take, drop, false, IfOk, IfErr, IsTrue, ◌↔◌};
 
 use crate::limits::MAX_JUMPS;
 
-/// The jumps that were taken: pairs of a DO_JUMP's seq and the number of its repeats that are used.
+/// The jumps that were taken: at most 32 pairs of a DO_JUMP's seq and the number of its repeats that are used.
 /// The seqs rise and each used number is at least 1; the cells behind the pairs are zero.
 #[derive(Clone, Copy, Debug, PartialEq, Eq)]
 pub struct Counts {
@@ -16,7 +16,7 @@ pub struct Counts {
 
 impl Counts {
     ghost use Rattle.mission_model.specs.CountsList.{pairs_of};
-    ghost use Rattle.mission_model.specs.Pairs.{has_pair, rises_from};
+    ghost use Rattle.mission_model.specs.Pairs.{Takes, rises_from};
     ghost use Rattle.std.specs.Prelude.{[], Some, slice_get};
 
     /// No jump was taken.
@@ -38,11 +38,19 @@ impl Counts {
         self.len
     }
 
-    /// Whether these are the same counts.
+    /// How many pairs can be kept.
+    pub fn capacity(&self) -> usize
+        ensures most { result ≡ MAX_JUMPS }
+        ensures cells { length self.now.pairs ≡ MAX_JUMPS }
+    {
+        self.pairs.len()
+    }
+
+    /// Whether these are the same counts. Only the cells that hold pairs are compared.
     pub fn is_same(&self, other: &Counts) -> bool
         ensures { IsTrue result ↔ (self.now ≡ other.now) }
     {
-        self.len == other.len && is_same_cells(&self.pairs, &other.pairs)
+        self.len == other.len && is_same_cells(&self.pairs, &other.pairs, self.len as usize)
     }
 
     /// The pair at a place, from 0.
@@ -60,10 +68,17 @@ impl Counts {
         used_in(&self.pairs[..self.len as usize], seq)
     }
 
+    /// Whether `put` may set the used number of a seq: it has a pair, or fewer than 32 pairs are there.
+    pub fn takes(&self, seq: u16) -> bool
+        ensures { IsTrue result ↔ Takes (pairs_of self.now) seq }
+    {
+        (self.len as usize) < MAX_JUMPS || has_pair_in(&self.pairs[..self.len as usize], seq)
+    }
+
     /// Sets the used number of a seq, and leaves the other pairs.
     pub fn put(&mut self, seq: u16, used: u16)
         requires used { 1 ≤ used }
-        requires room { (has_pair (pairs_of self.old) seq ≡ true) ⊎ (length (pairs_of self.old) < MAX_JUMPS) }
+        requires room { Takes (pairs_of self.old) seq }
         ensures { pairs_of self.new ≡ with_pair (pairs_of self.old) seq used }
     {
         let mut pairs = self.pairs;
@@ -75,12 +90,24 @@ impl Counts {
     }
 }
 
-/// Whether two lists of cells are the same.
-fn is_same_cells(left: &[(u16, u16)], right: &[(u16, u16)]) -> bool
-    requires { length left.now ≡ length right.now }
+/// Whether two lists of cells that hold so many pairs are the same. The cells behind the pairs are empty in both.
+fn is_same_cells(left: &[(u16, u16)], right: &[(u16, u16)], len: usize) -> bool
+    requires length { length left.now ≡ length right.now }
+    requires within { len ≤ length left.now }
+    requires left { is_kept len left.now ≡ true }
+    requires right { is_kept len right.now ≡ true }
     ensures { IsTrue result ↔ (left.now ≡ right.now) }
 {
-    for k in 0..left.len() {
+    is_same_pairs(left, right, len)
+}
+
+/// Whether the first cells of two lists are the same.
+fn is_same_pairs(left: &[(u16, u16)], right: &[(u16, u16)], len: usize) -> bool
+    requires left { len ≤ length left.now }
+    requires right { len ≤ length right.now }
+    ensures { IsTrue result ↔ (take len left.now ≡ take len right.now) }
+{
+    for k in 0..len {
         if left[k].0 != right[k].0 || left[k].1 != right[k].1 {
             return false;
         }
@@ -92,7 +119,7 @@ fn is_same_cells(left: &[(u16, u16)], right: &[(u16, u16)]) -> bool
 #[tactic(auto, using(crate::proofs::Places::places))]
 fn put_in(cells: &mut [(u16, u16)], len: usize, seq: u16, used: u16) -> usize
     requires within { len ≤ length cells.old }
-    requires room { (is_at (take len cells.old) (place_of (take len cells.old) seq) seq ≡ true) ⊎ (len < length cells.old) }
+    requires room { (is_at (take len cells.old) (pair_place (take len cells.old) seq) seq ≡ true) ⊎ (len < length cells.old) }
     ensures kept { length cells.new ≡ length cells.old }
     ensures within { result ≤ length cells.new }
     ensures pairs { take result cells.new ≡ with_pair (take len cells.old) seq used }
@@ -127,8 +154,8 @@ fn insert_at(cells: &mut [(u16, u16)], len: usize, at: usize, pair: (u16, u16))
 /// The place of a seq among pairs, which is the number of first pairs of lesser seqs: `Ok` where its pair
 /// stands there, `Err` where it has none there.
 fn place_in(pairs: &[(u16, u16)], seq: u16) -> Result<usize, usize>
-    ensures found { IfOk result (λ at. (at ≡ place_of pairs.now seq) × (at < length pairs.now) × (is_at pairs.now at seq ≡ true)) }
-    ensures missing { IfErr result (λ at. (at ≡ place_of pairs.now seq) × (at ≤ length pairs.now) × (is_at pairs.now at seq ≡ false)) }
+    ensures found { IfOk result (λ at. (at ≡ pair_place pairs.now seq) × (at < length pairs.now) × (is_at pairs.now at seq ≡ true)) }
+    ensures missing { IfErr result (λ at. (at ≡ pair_place pairs.now seq) × (at ≤ length pairs.now) × (is_at pairs.now at seq ≡ false)) }
 {
     let mut at = 0;
     for pair in pairs {
@@ -141,6 +168,18 @@ fn place_in(pairs: &[(u16, u16)], seq: u16) -> Result<usize, usize>
         at += 1;
     }
     Err(at)
+}
+
+/// Whether a seq has a pair.
+fn has_pair_in(pairs: &[(u16, u16)], seq: u16) -> bool
+    ensures { result ≡ has_pair pairs.now seq }
+{
+    for pair in pairs {
+        if pair.0 == seq {
+            return true;
+        }
+    }
+    false
 }
 
 /// The used number of a jump without a pair.
@@ -175,21 +214,21 @@ mod tests {
         let mut counts = Counts::new();
         assert_eq!(rt; counts.len(), 0);
         assert_eq!(rt; counts.used(7), 0);
-        // The seqs 0, 7, 14, .. 105 in a mixed order fill the sixteen places.
-        for k in 0..MAX_JUMPS as u16 {
-            let seq = k * 5 % 16 * 7;
-            if counts.used(seq) == 0 && (counts.len() as usize) < MAX_JUMPS {
+        // The seqs 0, 7, 14, .. 217 in a mixed order fill the thirty-two places.
+        for k in 0..32 {
+            let seq = k * 5 % 32 * 7;
+            if counts.takes(seq) {
                 counts.put(seq, k + 1);
             }
         }
-        assert_eq!(rt; counts.len(), 16);
+        assert_eq!(rt; counts.len(), 32);
         let rows = [
             (0, 0, 1),
             (1, 7, 14),
-            (2, 14, 11),
+            (2, 14, 27),
             (3, 21, 8),
             (5, 35, 2),
-            (15, 105, 4),
+            (31, 217, 20),
         ];
         for (place, seq, used) in rows {
             if place < counts.len() {
@@ -197,5 +236,31 @@ mod tests {
             }
             assert_eq!(rt; counts.used(seq), used, "of {seq}");
         }
+    }
+
+    #[test]
+    fn thirty_two_pairs_take_no_other_seq(rt: HostRuntime) {
+        let mut counts = Counts::new();
+        for seq in 0..31 {
+            if counts.takes(seq) {
+                counts.put(seq, 1);
+            }
+        }
+        assert_eq!(rt; counts.len(), 31);
+        assert!(rt; counts.takes(1999));
+        if counts.takes(1999) {
+            counts.put(1999, 7);
+        }
+        assert_eq!(rt; counts.len(), 32);
+        assert!(rt; !counts.takes(31));
+        assert!(rt; counts.takes(30));
+        assert!(rt; counts.takes(1999));
+        let full = counts;
+        if counts.takes(0) {
+            counts.put(0, 2);
+        }
+        assert_eq!(rt; counts.len(), 32);
+        assert_eq!(rt; counts.used(1999), 7);
+        assert!(rt; !counts.is_same(&full));
     }
 }

@@ -1,13 +1,13 @@
 //! Every limit of the product that is no limit of a plain text, by name. Nothing else repeats these numbers.
 
 /// Items of a mission.
-pub const MAX_MISSION_ITEMS: u16 = 500;
+pub const MAX_MISSION_ITEMS: u16 = 2_000;
 /// Vertices of a fence.
 pub const MAX_FENCE_VERTICES: u16 = 64;
 /// Safe (rally) points.
 pub const MAX_SAFE_POINTS: u16 = 32;
 /// DO_JUMP items of a mission, and so pairs of a mark.
-pub const MAX_JUMPS: usize = 16;
+pub const MAX_JUMPS: usize = 32;
 /// Rows of one plan text.
 pub const MAX_PLAN_ROWS: u16 = 4096;
 
@@ -29,6 +29,10 @@ pub const MAX_UPLOAD_LINES: usize = 256;
 pub const MAX_PLACES: u8 = 16;
 /// Characters of a plan's name.
 pub const MAX_NAME_BYTES: usize = 16;
+/// The greatest parameter TKO_LAND.
+pub const MAX_TKO_LAND: u8 = 4;
+/// The greatest parameter RTL_TYPE.
+pub const MAX_RTL_TYPE: u8 = 2;
 
 /// Requests that the Navigator may have outstanding at the board.
 pub const NAV_ROOM: u8 = 8;
@@ -38,7 +42,7 @@ pub const LINK_ROOM: u8 = 1;
 pub const WATCH_ROOM: u8 = 4;
 
 /// Bytes of the store.
-pub const STORE_BYTES: u64 = 57_728;
+pub const STORE_BYTES: u64 = 267_264;
 
 /// The last generation of a cell of the store.
 pub const LAST_GENERATION: u64 = u64::MAX;

@@ -8,9 +8,10 @@ ghost use Rattle.mission_model.specs.PlanCheck.{Checked, HasRoom, CountsTaken, A
 
 use crate::command::{jump_of, vertex_count};
 use crate::item_check::check_item;
-use crate::limits::{MAX_FENCE_VERTICES, MAX_JUMPS, MAX_MISSION_ITEMS, MAX_SAFE_POINTS};
+use crate::limits::MAX_JUMPS;
 use crate::message::AckCode;
 use crate::plan::{Item, PlanType};
+use crate::plan_type::limit_of;
 
 /// A check of a plan that takes its items one by one.
 #[derive(Clone, Copy)]
@@ -157,17 +158,6 @@ fn one_fewer(first: Item, missing: u32) -> Option<OpenPolygon>
         })
     } else {
         None
-    }
-}
-
-/// The greatest number of items of a plan of this type.
-pub fn limit_of(kind: PlanType) -> u16
-    ensures { result ≡ limit_of kind }
-{
-    match kind {
-        PlanType::Mission => MAX_MISSION_ITEMS,
-        PlanType::Fence => MAX_FENCE_VERTICES,
-        PlanType::Safe => MAX_SAFE_POINTS,
     }
 }
 

@@ -1,5 +1,8 @@
 //! What clients ask of the dataman worker, and what it replies.
 
+ghost use Rattle.std.specs.Prelude.{◌≡◌};
+ghost use Rattle.mission_model.specs.Shown.{asked_of};
+
 use crate::counts::Mark;
 use crate::plan::{Item, PlanType};
 
@@ -59,4 +62,16 @@ pub enum Reply {
     PowerOff,
     /// The cell's generation is the last one.
     Spent(u64),
+}
+
+/// The request without the item that it writes.
+pub fn asked_of(request: &Request) -> Asked
+    ensures { result ≡ asked_of request.now }
+{
+    match *request {
+        Request::Read { kind, id, seq } => Asked::Read { kind, id, seq },
+        Request::Write { kind, id, seq, .. } => Asked::Write { kind, id, seq },
+        Request::Commit { kind, id, count } => Asked::Commit { kind, id, count },
+        Request::SetMark(mark) => Asked::SetMark(mark),
+    }
 }

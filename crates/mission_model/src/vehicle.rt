@@ -114,3 +114,6 @@ pub struct BootState {
     pub heads: [PlanHead; 3],
     pub mark: Mark,
 }
+
+/// What a boot finds, as the Navigator is given it.
+pub type BootMark = BootState;

@@ -73,7 +73,7 @@ fn step_in(machine: &mut LegMachine, items: &[Item]) -> Came
     requires count { length items.now ≡ machine.old.count }
     ensures { machine.new.count ≡ machine.old.count }
 {
-    if machine.counts().len() as usize >= MAX_JUMPS {
+    if !machine.counts().takes(machine.index()) {
         return Came::Nothing;
     }
     let index = machine.index() as usize;

@@ -2,7 +2,9 @@
 
 use super::*;
 use crate::plan::Param::{Milli, Unset};
+use crate::plan::PlanHead;
 use crate::plan::PlanType::{Fence, Mission, Safe};
+use crate::plan_type::head_of;
 
 const NO_SPACE: u8 = 4;
 
@@ -42,10 +44,10 @@ fn jumps_and_polygons(rt: HostRuntime) {
     let in_3 = item(5001, 3000);
     let out_3 = item(5002, 3000);
     let in_4 = item(5001, 4000);
-    let mut jumps = [to_0; 18];
+    let mut jumps = [to_0; 34];
     jumps[0] = point;
     let mut last_out = jumps;
-    last_out[17] = item(177, 18_000);
+    last_out[33] = item(177, 34_000);
     let cases: [(PlanType, &[Item], Option<(u16, u8)>); 22] = [
         (Mission, &[], None),
         (Mission, &[point, to_0], None),
@@ -55,9 +57,9 @@ fn jumps_and_polygons(rt: HostRuntime) {
         (Mission, &[point, to_2, point], None),
         (Mission, &[to_1, point, to_2], Some((2, INVALID))),
         (Mission, &[point, bad_repeats], Some((1, INVALID_PARAM2))),
-        (Mission, &jumps[..17], None),
-        (Mission, &jumps, Some((17, NO_SPACE))),
-        (Mission, &last_out, Some((17, NO_SPACE))),
+        (Mission, &jumps[..33], None),
+        (Mission, &jumps, Some((33, NO_SPACE))),
+        (Mission, &last_out, Some((33, NO_SPACE))),
         (Fence, &[], None),
         (Fence, &[in_3; 3], None),
         (Fence, &[in_3; 6], None),
@@ -77,17 +79,17 @@ fn jumps_and_polygons(rt: HostRuntime) {
 
 #[test]
 fn limits(rt: HostRuntime) {
-    let points = [item(16, 0); 501];
+    let points = [item(16, 0); 2001];
     let mut bad = points;
     bad[3] = item(0, 0);
     let vertices = [item(5001, 64_000); 65];
     let too_many = [item(5001, 65_000); 65];
     let safe_points = [item(5100, 0); 33];
     let cases: [(PlanType, &[Item], Option<(u16, u8)>); 9] = [
-        (Mission, &points[..500], None),
-        (Mission, &points, Some((500, NO_SPACE))),
-        (Mission, &bad[..500], Some((3, 3))),
-        (Mission, &bad, Some((500, NO_SPACE))),
+        (Mission, &points[..2000], None),
+        (Mission, &points, Some((2000, NO_SPACE))),
+        (Mission, &bad[..2000], Some((3, 3))),
+        (Mission, &bad, Some((2000, NO_SPACE))),
         (Fence, &vertices[..64], None),
         (Fence, &too_many[..64], Some((0, INVALID))),
         (Fence, &too_many, Some((64, NO_SPACE))),
@@ -114,4 +116,19 @@ fn a_refusal_leaves_the_check_as_it_was(rt: HostRuntime) {
     }
     assert!(rt; !check.has_room());
     assert_eq!(rt; check.taken(), 2);
+}
+
+/// The number in a message, the most items and the place of each type.
+#[test]
+fn the_table_of_plan_types(rt: HostRuntime) {
+    let heads = [(1, 2000), (2, 64), (3, 32)].map(|(id, count)| PlanHead { id, count });
+    let rows = [(Mission, 0, 2000), (Fence, 1, 64), (Safe, 2, 32)];
+    for (kind, number, limit) in rows {
+        assert_eq!(rt; kind.number(), number);
+        assert_eq!(rt; limit_of(kind), limit);
+        assert_eq!(rt; PlanType::of_number(number), Some(kind));
+        assert_eq!(rt; head_of(&heads, kind).count, limit);
+    }
+    assert_eq!(rt; PlanType::of_number(3), None);
+    assert_eq!(rt; PlanType::of_number(255), None);
 }

@@ -148,7 +148,7 @@ fn what_was_written_last_is_committed_whole(rt: HostRuntime) -> Result<(), Fail>
         (read(MISSION, 0, 0), None),
         (read(MISSION, 1, 0), Some(Reply::Stale(0))),
         (write(MISSION, 0, 0, a), None),
-        (write(MISSION, 1, 500, a), None),
+        (write(MISSION, 1, 2000, a), None),
         (write(MISSION, 1, 0, a), done),
         (write(MISSION, 1, 1, b), done),
         (read(MISSION, 1, 0), Some(Reply::Stale(0))),

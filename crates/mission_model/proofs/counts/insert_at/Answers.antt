@@ -1,4 +1,4 @@
-use Rattle.std.proofs.Common.{rules, ◌≡◌, ◌+◌, ◌-◌, ◌≤◌, ◌∷◌, length, take, drop, arith, sym, take-take, length-take, length-drop, length-set, length-append}
+use Rattle.std.proofs.Common.{◌+◌, ◌-◌, ◌∷◌, take, drop, arith, take-take, length-take, length-drop, length-set}
 use Rattle.std.proofs.lemmas.Grind.{common_steps}
 use Rattle.mission_model.proofs.Moved.{moved}
 use Rattle.std.proofs.lemmas.Slice.{take-put_mid, drop-put_mid}

@@ -1,4 +1,4 @@
-use Rattle.std.proofs.Common.{◌≡◌, ℕ, ◌+◌, take, length, sym, subst}
+use Rattle.std.proofs.Common.{take, length, sym, subst}
 use Rattle.mission_model.specs.PlanCheck.{Checked}
 use Rattle.mission_model.proofs.WholePlan.{refused_at, checked_next}
 use Rattle.mission_model.proofs.plan_check.check_items.Goals as goal

@@ -1,6 +1,4 @@
-use Rattle.std.proofs.Common.{rules, ◌≡◌, ◌<◌, true, arith, inl, inr, take, length, length-take, ◌⊎◌}
-use Rattle.mission_model.specs.Pairs.{has_pair, rises_from, is_at, place_of}
-use Rattle.mission_model.specs.declared.limits.TheConstants.{MAX_JUMPS}
+use Rattle.std.proofs.Common.{arith, inl, inr, take, length-take}
 use Rattle.mission_model.proofs.Places.{has_pair-at, kept-rises, kept-put, kept-len}
 use Rattle.std.proofs.lemmas.Grind.{common_steps}
 use Rattle.mission_model.proofs.counts.Counts.put.Goals as goal

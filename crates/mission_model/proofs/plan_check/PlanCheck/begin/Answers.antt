@@ -1,4 +1,3 @@
-use Rattle.std.proofs.Common.{◌≡◌}
 use Rattle.mission_model.proofs.Checks.{begun}
 use Rattle.mission_model.proofs.plan_check.PlanCheck.begin.Goals as goal
 

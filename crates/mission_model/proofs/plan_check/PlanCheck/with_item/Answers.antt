@@ -1,4 +1,4 @@
-use Rattle.std.proofs.Common.{◌≡◌, sym, ◌∙◌}
+use Rattle.std.proofs.Common.{sym, ◌∙◌}
 use Rattle.std.proofs.lemmas.Result.{err_from_is_err_and}
 use Rattle.mission_model.proofs.Checks.{item_refused, item_passed, mission_taken, vertex_taken, point_taken}
 use Rattle.mission_model.proofs.plan_check.PlanCheck.with_item.Goals as goal
