@@ -6,3 +6,4 @@ pub mod Nearest
 pub mod Answer
 pub mod Trimming
 pub mod Printed
+pub mod Wholes

@@ -1,6 +1,8 @@
 pub mod Token
 pub mod Scaled
 pub mod Faults
+pub mod Whole
+pub mod WholeLaws
 pub mod Parts
 pub mod Digits
 pub mod Decimal

@@ -1,6 +1,6 @@
 //! Worked numbers, read and printed, and where tokens break off.
 
-use super::{NumFault, print_scaled, read_scaled};
+use super::{NumFault, print_scaled, read_scaled, read_whole};
 
 /// 64 bytes: a point, zeros and a 5, and a power of ten that makes it 5.
 const LONG_POWER: &[u8] = b"0.000000000000000000000000000000000000000000000000000000005e+057";
@@ -93,6 +93,33 @@ fn reads_worked_numbers(rt: HostRuntime) {
     for (token, scale, want) in rows {
         assert!(rt; scale <= 9);
         assert_eq!(rt; read_scaled(token, scale), want);
+    }
+}
+
+#[test]
+fn reads_whole_numbers(rt: HostRuntime) {
+    let rows: [(&[u8], u32, u32, Result<u32, NumFault>); 18] = [
+        (b"0", 0, 255, Ok(0)),
+        (b"255", 0, 255, Ok(255)),
+        (b"256", 0, 255, Err(NumFault::OutOfRange)),
+        (b"0", 1, 255, Err(NumFault::OutOfRange)),
+        (b"0000000007", 1, 255, Ok(7)),
+        (b"4294967295", 1, 4_294_967_295, Ok(4_294_967_295)),
+        (b"4294967296", 0, 4_294_967_295, Err(NumFault::OutOfRange)),
+        (b"9999999999", 0, 4_294_967_295, Err(NumFault::OutOfRange)),
+        (b"00000000007", 0, 255, Err(NumFault::TooLong)),
+        (b"-0000000007", 0, 255, Err(NumFault::TooLong)),
+        (b"", 0, 255, Err(NumFault::Empty)),
+        (b"-7", 0, 255, Err(NumFault::BadDigit(0))),
+        (b"+7", 0, 255, Err(NumFault::BadDigit(0))),
+        (b"7 ", 0, 255, Err(NumFault::BadDigit(1))),
+        (b"7.0", 0, 255, Err(NumFault::BadDigit(1))),
+        (b"1e3", 0, 255, Err(NumFault::BadDigit(1))),
+        (b"12:", 0, 255, Err(NumFault::BadDigit(2))),
+        (b"/9", 0, 255, Err(NumFault::BadDigit(0))),
+    ];
+    for (token, least, greatest, want) in rows {
+        assert_eq!(rt; read_whole(token, least, greatest), want);
     }
 }
 

@@ -1,10 +1,9 @@
 -- How what a loop has found goes on by one more.
-use Rattle.std.proofs.Common.{◌≡◌, ℕ, ◌≤◌, List, [], ◌∷◌, ◌++◌, map, sym, ◌∙◌, ap, arith, append_assoc, true, false, cond, append-nil, zero, suc, length}
-use Rattle.std.proofs.lemmas.List.{map_push, map-append}
+use Rattle.std.proofs.Common.{◌≡◌, ℕ, ◌≤◌, List, [], ◌∷◌, ◌++◌, map, sym, ◌∙◌, ap, arith, append_assoc, zero, suc, length}
+use Rattle.std.proofs.lemmas.List.{map_push}
 use Rattle.nav_text.specs.declared.span.Span.{Span}
-use Rattle.std.specs.Prelude.{nat_lt, All}
+use Rattle.std.specs.Prelude.{All}
 use Rattle.nav_text.specs.Spans.{Rising, IsInside}
-use Rattle.nav_text.specs.Words.{word_between}
 
 -- what was found, and what is left
 pub one_more : {A : Type 0} (found : List A) (x : A) (left rest whole : List A) → found ++ left ≡ whole → left ≡ x ∷ rest → (found ++ x ∷ []) ++ rest ≡ whole
@@ -32,16 +31,3 @@ pub all_inside : (text : List ℕ) (from : ℕ) (spans : List Span) (to : ℕ) �
 all_inside text from [] to h l k d below = absurd (omega arith)
 all_inside text from (span ∷ more) to h l zero d below = (h.1, (let later = rising_bounds span.to more to h.2 in omega arith))
 all_inside text from (span ∷ more) to h l (suc k) d below = all_inside text span.to more to h.2 l k d (omega arith)
-
--- words behind them, if any
-pub rising_words : (from : ℕ) (spans : List Span) (to end later : ℕ) → Rising from spans to → to ≤ end → end ≤ later → Rising from (spans ++ word_between to end) later
-rising_words from spans to end later h a b = elim (nat_lt to end) as (λ test. Rising from (spans ++ cond test (record { from = to; to = end } ∷ []) []) later) [
-  | true ↦ rising_more from spans to (record { from = to; to = end }) later h (omega arith) a b
-  | false ↦ rw append-nil (rising_later from spans to later h (omega arith))
-]
-
-pub words_more : {A : Type 0} (found words left rest whole : List A) → found ++ left ≡ whole → left ≡ words ++ rest → (found ++ words) ++ rest ≡ whole
-words_more found words left rest whole h e = append_assoc found words rest ∙ ap (λ r. found ++ r) (sym e) ∙ h
-
-pub words_more_mapped : {A B : Type 0} (f : A → B) (found words : List A) (left rest whole : List B) → map f found ++ left ≡ whole → left ≡ map f words ++ rest → map f (found ++ words) ++ rest ≡ whole
-words_more_mapped f found words left rest whole h e = ap (λ r. r ++ rest) (map-append f found words) ∙ words_more (map f found) (map f words) left rest whole h e

@@ -1,5 +1,5 @@
 -- How the words of a line go on after the first piece.
-use Rattle.std.proofs.Common.{◌≡◌, ℕ, ◌+◌, ◌-◌, ◌≤◌, Bool, true, false, List, [], ◌∷◌, ◌++◌, length, take, drop, cond, refl, sym, ◌∙◌, ap, arith, map, filter, inl, inr}
+use Rattle.std.proofs.Common.{◌≡◌, ℕ, ◌+◌, ◌-◌, ◌<◌, ◌≤◌, Bool, true, false, List, [], ◌∷◌, ◌++◌, length, take, drop, cond, refl, sym, ◌∙◌, ap, arith, map, filter, inl, inr}
 use Rattle.std.specs.Prelude.{nat_lt}
 use Rattle.std.specs.List.{position_or_len, slice_split, slice_range}
 use Rattle.std.proofs.lemmas.List.Splits.{slice_split_none, slice_split_first}
@@ -9,6 +9,7 @@ use Rattle.std.proofs.lemmas.Bool.{lt-ltb, le-ltb, cases_lt}
 use Rattle.nav_text.specs.declared.span.Span.{Span}
 use Rattle.nav_text.specs.Spans.{text_of}
 use Rattle.nav_text.specs.Words.{is_blank, words_in, piece_spans, word_spans, word_between}
+use Rattle.nav_text.specs.Cursors.{IsFirstWord}
 use Rattle.nav_text.proofs.SpanText.{length-slice_range}
 
 -- no byte that parts is left: all is one piece
@@ -123,3 +124,33 @@ no_word_spans text from to h =
     let last : Span = record { from = from; to = from + 0 } in
     ap (λ k. filter (λ (span : Span). nat_lt span.from span.to) (piece_spans from (slice_split is_blank (take k (drop from text))))) none
     ∙ ap (λ b. cond b (last ∷ []) []) (no_word from)
+
+-- a word lies between two places where the first is before the second
+word_there : (from end : ℕ) → from < end → word_between from end ≡ record { from = from; to = end } ∷ []
+word_there from end h = ap (λ b. cond b (record { from = from; to = end } ∷ []) []) (lt-ltb from end h)
+
+no_word_there : (from end : ℕ) → end ≤ from → word_between from end ≡ []
+no_word_there from end h = ap (λ b. cond b (record { from = from; to = end } ∷ []) []) (le-ltb from end h)
+
+-- the first word of a range ends where the first byte parts
+pub first_word : (text : List ℕ) (before from to end : ℕ) → end ≡ from + position_or_len is_blank (slice_range text from to) → end ≤ to → from < end → to ≤ length text → before ≤ from
+    → words_in (slice_range text before to) ≡ words_in (slice_range text from to)
+    → word_spans before (slice_range text before to) ≡ word_spans from (slice_range text from to)
+    → IsFirstWord text before to (record { from = from; to = end }) (end + 1)
+first_word text before from to end place ends some inside above words spans = record {
+  words = words ∙ words_step text from to end place ends (omega arith) inside ∙ ap (λ (found : List Span). map (text_of text) found ++ words_in (slice_range text (end + 1) to)) (word_there from end some);
+  spans = spans ∙ word_spans_step text from to end place ends (omega arith) inside ∙ ap (λ (found : List Span). found ++ word_spans (end + 1) (slice_range text (end + 1) to)) (word_there from end some);
+  begins = above;
+  some = some;
+  ends = ends;
+  behind = omega arith;
+}
+
+-- no word begins where a byte parts
+pub words_later : (text : List ℕ) (from to end : ℕ) → end ≡ from + position_or_len is_blank (slice_range text from to) → end ≤ from → from ≤ to → to ≤ length text → words_in (slice_range text from to) ≡ words_in (slice_range text (end + 1) to)
+words_later text from to end place same rising inside =
+    words_step text from to end place (omega arith) rising inside ∙ ap (λ (found : List Span). map (text_of text) found ++ words_in (slice_range text (end + 1) to)) (no_word_there from end same)
+
+pub word_spans_later : (text : List ℕ) (from to end : ℕ) → end ≡ from + position_or_len is_blank (slice_range text from to) → end ≤ from → from ≤ to → to ≤ length text → word_spans from (slice_range text from to) ≡ word_spans (end + 1) (slice_range text (end + 1) to)
+word_spans_later text from to end place same rising inside =
+    word_spans_step text from to end place (omega arith) rising inside ∙ ap (λ (found : List Span). found ++ word_spans (end + 1) (slice_range text (end + 1) to)) (no_word_there from end same)

@@ -1,5 +1,6 @@
 pub mod Spans
 pub mod Lines
 pub mod Words
+pub mod Cursors
 pub mod Faults
 pub mod Joined

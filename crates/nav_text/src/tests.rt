@@ -1,6 +1,8 @@
 //! Texts with their lines and words, as the rules for them say.
 
-use crate::{MAX_LINE_BYTES, MAX_TEXT_BYTES, Span, TextFault, join_text, split_lines, words_of};
+use crate::{
+    MAX_LINE_BYTES, MAX_TEXT_BYTES, Span, TextFault, WordCursor, join_text, split_lines, words_of,
+};
 use std::test::*;
 
 const LONGEST: [u8; 512] = [b'a'; 512];
@@ -72,6 +74,16 @@ fn words_of_lines(rt: HostRuntime) -> Result<(), Fail> {
         assert!(rt; same(&words, places), "at {}", text.len());
     }
     Ok(())
+}
+
+#[test]
+fn words_one_by_one(rt: HostRuntime) {
+    let text = b"#\tnav  go \t\n";
+    let mut words = WordCursor::new(text, Span { from: 1, to: 10 });
+    assert_eq!(rt; words.next(text), Some(Span { from: 2, to: 5 }));
+    assert_eq!(rt; words.next(text), Some(Span { from: 7, to: 9 }));
+    assert_eq!(rt; words.next(text), None);
+    assert_eq!(rt; words.next(text), None);
 }
 
 /// A span that goes on past the text, one that begins behind it, and one that ends before it begins.

@@ -1,4 +1,3 @@
-pub mod Digits
 pub mod Results
 pub mod Numbers
 pub mod RowValues

@@ -96,7 +96,7 @@ pub decimal_whole : (limit n : ℕ) → n ≤ limit → n ≤ 65535 → IsWhole 
 decimal_whole limit n within small =
     let numeral = decimal_is_IsNumeral n (omega arith) in
     let short = decimal_short n small in
-    record { numeral = numeral.0; short = omega arith; value = numeral.1; within = within }
+    record { numeral = numeral.0; short = omega arith; value = numeral.1; low = omega arith; high = within }
 
 pub current_small : (place : ℕ) → current_of place ≤ 1
 current_small place = elim (place == 0) as (λ b. cond b 1 0 ≤ 1) [ true ↦ lit≤ tt | false ↦ lit≤ tt ]

@@ -1,14 +1,14 @@
 -- The words of a row, and what they stand for. Fields are numbered from 1.
-use Rattle.std.specs.Prelude.{◌≡◌, ℕ, ◌-◌, ◌≤◌, List, [], length, codes, not, ◌==◌, Bool, map}
+use Rattle.std.specs.Prelude.{◌≡◌, ℕ, ◌-◌, List, [], codes, not, ◌==◌, Bool, map}
 use Rattle.std.specs.List.{slice_index_or}
 use Rattle.std.specs.Str.{str_to_ascii_lowercase}
-use Rattle.std.specs.Str.Parse.{IsNumeral, digits_value}
 use Rattle.nav_text.specs.declared.span.Span.{Span}
 use Rattle.nav_text.specs.Spans.{text_of}
 use Rattle.nav_num.specs.Faults.{ReadsAs}
 use Rattle.mission_model.specs.declared.plan.Param.{Param}
 use Rattle.mission_model.specs.declared.plan.Param.TheVariants.{Unset, Milli}
-use Rattle.wpl_items.specs.declared.fields.TheConstants.{MAX_DIGITS, MAX_SMALL, PARAM_SCALE}
+use Rattle.nav_num.specs.WholeLaws.{IsWholeNumber}
+use Rattle.wpl_items.specs.declared.fields.TheConstants.{MAX_SMALL, PARAM_SCALE}
 
 -- the words that spans name
 abbrev pub named : List ℕ → List Span → List (List ℕ)
@@ -19,11 +19,8 @@ abbrev pub word_at : List (List ℕ) → ℕ → List ℕ
 word_at words field = slice_index_or words (field - 1) []
 
 -- the word is a whole number of one to ten digits, and at most the limit
-pub record IsWhole (limit : ℕ) (word : List ℕ) (n : ℕ) : Type 0 where
-  pub numeral : IsNumeral 10 word
-  pub short : length word ≤ MAX_DIGITS
-  pub value : digits_value 10 word ≡ n
-  pub within : n ≤ limit
+abbrev pub IsWhole : ℕ → List ℕ → ℕ → Type 0
+IsWhole limit = IsWholeNumber 0 limit
 
 -- the word is no such number
 abbrev pub NotWhole : ℕ → List ℕ → Type 0

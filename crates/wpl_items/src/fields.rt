@@ -1,7 +1,6 @@
 //! One field of a row: its word, and the number that the word stands for.
 
 ghost use Rattle.std.specs.Prelude.{◌≡◌, ℕ, ℤ, ◌<◌, ◌≤◌, Bool, length, All, IfOk, IfErr, MatchOption};
-ghost use Rattle.std.specs.Str.Parse.{AllDigits, digits_value};
 ghost use Rattle.nav_text.specs.Spans.{IsInside};
 ghost use Rattle.nav_num.specs.declared.fault.NumFault.{NumFault};
 ghost use Rattle.nav_num.specs.Faults.{ReadsAs, HasFault};
@@ -10,7 +9,7 @@ ghost use Rattle.wpl_items.specs.Fields.{named, word_at, IsWhole, NotWhole, IsNa
 
 use crate::fault::WplFault;
 use mission_model::Param;
-use nav_num::read_scaled;
+use nav_num::{read_scaled, read_whole};
 use nav_text::Span;
 
 pub(crate) const INDEX: u8 = 1;
@@ -43,8 +42,6 @@ pub(crate) const FIELDS: usize = 12;
 pub(crate) const MAX_NUMBER: u32 = 65_535;
 /// The greatest frame, current and autocontinue.
 pub(crate) const MAX_SMALL: u32 = 255;
-/// Digits of a whole number.
-pub(crate) const MAX_DIGITS: usize = 10;
 /// Parameters are thousandths.
 pub(crate) const PARAM_SCALE: u8 = 3;
 /// Latitude and longitude are 1e-7 degree.
@@ -63,33 +60,14 @@ fn word<'a>(text: &'a [u8], words: &[Span], field: u8) -> &'a [u8]
     &text[span.from as usize..span.to as usize]
 }
 
-/// The value of a word of at most ten digits.
-fn digits(word: &[u8]) -> Option<u64>
-    requires { length word.now ≤ MAX_DIGITS }
-    ensures { MatchOption result (¬ (AllDigits 10 word.now)) (λ n. AllDigits 10 word.now × (n ≡ digits_value 10 word.now)) }
-{
-    let mut number = 0;
-    for byte in word {
-        if !byte.is_ascii_digit() {
-            return None;
-        }
-        number = number * 10 + u64::from(*byte - b'0');
-    }
-    Some(number)
-}
-
 /// The whole number of one to ten digits that a word is, if it is at most the limit.
 fn whole(word: &[u8], limit: u32) -> Option<u32>
     ensures { MatchOption result (NotWhole limit word.now) (λ n. IsWhole limit word.now n) }
 {
-    if word.is_empty() || word.len() > MAX_DIGITS {
-        return None;
+    match read_whole(word, 0, limit) {
+        Ok(number) => Some(number),
+        Err(_) => None,
     }
-    let number = digits(word)?;
-    if number > u64::from(limit) {
-        return None;
-    }
-    Some(number as u32)
 }
 
 /// A whole number up to a limit.

@@ -1,25 +1,18 @@
 //! The lines of a plan text: its header, its rows and the blank lines at its end.
 
 ghost use Rattle.std.specs.Prelude.{◌≡◌, ◌≤◌, length, map, take, All};
-ghost use Rattle.nav_text.specs.Words.{is_blank};
 ghost use Rattle.nav_text.specs.Spans.{text_of, IsInside};
 ghost use Rattle.wpl_items.specs.Wpl.{is_header, is_blank_line, without_blank_end};
 
-use nav_text::Span;
+use nav_text::{Span, is_blank};
 
 /// The first line of a plan text.
 pub(crate) const HEADER: &[u8] = b"QGC WPL 110";
 
-fn is_blank_byte(byte: u8) -> bool
-    ensures { result ≡ is_blank byte }
-{
-    byte == b' ' || byte == b'\t'
-}
-
 fn blank_line(line: &[u8]) -> bool
     ensures { result ≡ is_blank_line line.now }
 {
-    line.iter().all(|byte| is_blank_byte(*byte))
+    line.iter().all(|byte| is_blank(*byte))
 }
 
 /// Whether a line is the header, with or without blanks behind it.

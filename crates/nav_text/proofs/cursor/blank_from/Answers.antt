@@ -3,7 +3,7 @@ use Rattle.std.specs.List.{slice_range}
 use Rattle.nav_text.specs.Words.{is_blank}
 use Rattle.nav_text.proofs.Places.{end_is}
 use Rattle.nav_text.proofs.SpanText.{length-slice_range}
-use Rattle.nav_text.proofs.words.blank_from.Goals as goal
+use Rattle.nav_text.proofs.cursor.blank_from.Goals as goal
 
 pub returns-in-None-clause-place : goal.returns-in-None-clause-place
 returns-in-None-clause-place c =
