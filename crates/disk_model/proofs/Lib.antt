@@ -1,3 +1,4 @@
+mod Covers
 mod Images
 mod Calls
 mod Shelves

@@ -69,14 +69,14 @@ told_images false kept was disk size is keeps settled same c = subst (λ (o : Op
 pub stored : (size : ℕ) (shelf : MemoryShelf) (was disk : MemoryDisk) → shelf.kept ≡ Some was → Keeps shelf.open_fails shelf.kept size → IsSettled disk.contents → disk.contents.bytes ≡ was.contents.bytes → disk.power ≡ renewed was.power
     → IsStored size (state_of shelf) (disk_state_of disk)
 stored size shelf was disk is keeps settled same power = record {
-  fresh = record {
+  given = record {
+    room = subst (λ (v : _). size ≤ length v.items) (sym same) (keeps_room shelf.open_fails shelf.kept was size is keeps);
     power = ap (λ (p : _). p.on) power;
     armed = ap (λ (p : _). p.armed) power;
+    faults = ap (λ (p : _). p.tally.faults) power;
+    cuts = ap (λ (p : _). p.cuts) power;
     only = λ c left. settled_image disk.contents c settled left;
   };
-  room = subst (λ (v : _). size ≤ length v.items) (sym same) (keeps_room shelf.open_fails shelf.kept was size is keeps);
-  faults = ap (λ (p : _). p.tally.faults) power;
-  cuts = ap (λ (p : _). p.cuts) power;
   tells = λ told. refl;
   images = λ told. told_images shelf.open_fails shelf.kept was disk size is keeps settled same;
 }

@@ -143,3 +143,25 @@ every_run at n Q F old new run keeps every = record {
   reads = λ told. keeps old.seen new.seen (run.reads told) (every.reads (subst (λ (b : Bool). IsTrue b) run.tells told));
   images = λ c left. let from = run.within c left in keeps from.0 c from.2 (every.images from.0 from.1);
 }
+
+-- one call more that changes neither what is read nor an image
+pub since_still : (old mid new : DiskState) (P : List ℕ → Type 0) → LeavesOnly old mid P → Still mid new → Elapses mid new → LeavesOnly old new P
+since_still old mid new P so_far still time = goes_on old mid new P so_far time (λ c left. so_far.now c (still.images c left))
+
+-- a restart, whose only image was one before it
+pub since_restart : (old mid new : DiskState) (P : List ℕ → Type 0) → IsSound new → LeavesOnly old mid P → Restarts mid new → LeavesOnly old new P
+since_restart old mid new P sound so_far restarts =
+    goes_on old mid new P so_far restarts.time (λ c left. subst P (sym (restarts.only c left)) (so_far.now new.seen (restarts.image (told_before mid new restarts.time (sound.told c left)))))
+
+-- after a restart what is read is the only image, and was one before
+pub record LeavesOne (old new : DiskState) : Type 0 where
+  pub only : (c : List ℕ) → new.images c → c ≡ new.seen
+  pub from : (c : List ℕ) → new.images c → old.images c
+  pub told : IsTrue new.tells → new.images new.seen
+
+pub restart_leaves_one : (old new : DiskState) → IsSound new → Restarts old new → LeavesOne old new
+restart_leaves_one old new sound restarts = record {
+  only = restarts.only;
+  from = λ c left. subst old.images (sym (restarts.only c left)) (restarts.image (told_before old new restarts.time (sound.told c left)));
+  told = sound.seen_is_left;
+}

@@ -4,10 +4,14 @@ pub mod Places
 pub mod Moments
 pub mod Every
 pub mod Meters
+pub mod Counts
+pub mod CountLaws
 pub mod Power
 pub mod Tears
+pub mod Spans
 pub mod Contents
 pub mod Memory
+pub mod Given
 pub mod Shelf
 pub mod MemoryShelf
 pub mod File
@@ -16,3 +20,5 @@ pub mod Overlay
 pub mod History
 pub mod Entries
 pub mod Record
+pub mod FailReads
+pub mod Untold

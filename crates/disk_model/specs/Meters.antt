@@ -1,7 +1,7 @@
 -- How many calls a run of calls makes, and inside which of them a cut comes.
-use Rattle.std.specs.Prelude.{◌≡◌, ◌⊎◌, ◌<◌, ◌≤◌, ◌+◌, ◌^◌, ℕ, zero, suc, Bool, true, false, IsTrue, Option, IsSome, Result, Ok, Err, is_ok}
+use Rattle.std.specs.Prelude.{◌≡◌, ◌⊎◌, ◌<◌, ◌≤◌, ◌+◌, ◌-◌, ◌^◌, ℕ, zero, suc, Bool, true, false, IsTrue, Option, IsSome, Result, Ok, Err, is_ok}
 use Rattle.std.proofs.Common.{inl, inr, ⊎_elim, refl, sym, ◌∙◌, ap, subst, arith}
-use Rattle.std.proofs.lemmas.Bool.{false≢true, true≢false, false_from_ne_true, true_from_ne_false, cases_eq}
+use Rattle.std.proofs.lemmas.Bool.{false≢true, true≢false, false_from_ne_true, true_from_ne_false, cases_eq, cases_lt}
 use Rattle.disk_model.specs.Disk.{Meter, counted, Rose, next_call, CutComes, NoCut, AfterCall, AfterChange, AfterRead, names_change, names_read}
 use Rattle.disk_model.specs.declared.disk.CutAt.{CutAt}
 use Rattle.disk_model.specs.declared.disk.DiskFault.{DiskFault}
@@ -88,10 +88,12 @@ comes_later a b c first comes = record {
   disarmed = comes.disarmed;
 }
 
-not_both : (named : Bool) (b c : Meter) (result : _) → AfterCall named b c result → IsTrue b.can_cut → IsTrue b.power → NoCut b c → named ≡ false
+-- a call behind which no cut came is not named
+pub not_both : (named : Bool) (b c : Meter) (result : _) → AfterCall named b c result → IsTrue b.can_cut → IsTrue b.power → NoCut b c → named ≡ false
 not_both named b c result after can on none = false_from_ne_true named (λ is. false≢true (sym ((after.exactly can on).0 is).off ∙ none.power ∙ on))
 
-named_there : (named : Bool) (b c : Meter) (result : _) → AfterCall named b c result → IsTrue b.can_cut → IsTrue b.power → CutComes b c → IsTrue named
+-- and one in which it came is
+pub named_there : (named : Bool) (b c : Meter) (result : _) → AfterCall named b c result → IsTrue b.can_cut → IsTrue b.power → CutComes b c → IsTrue named
 named_there named b c result after can on comes = true_from_ne_false named (λ is. false≢true (sym comes.off ∙ ((after.exactly can on).1 is).power ∙ on))
 
 -- before the first call
@@ -187,3 +189,91 @@ cut_in_read k r a b c result so_far comes after = record {
         let there : IsTrue (names_read b.armed (next_call b.reads)) = named_there _ b c result after.call (so_far.can_cut ∙ can) (so_far.no_cut.power ∙ on) comes in
         subst (λ (o : Option CutAt). IsTrue (names_read o (calls_on a.reads (suc r)))) so_far.no_cut.armed
         (subst (λ (n : ℕ). IsTrue (names_read b.armed (next_call n))) so_far.reads there)
+
+-- the number of calls after k more and then j
+pub calls_on_more : (n k j : ℕ) → calls_on (calls_on n k) j ≡ calls_on n (k + j)
+calls_on_more n k zero =
+    let same : k ≡ k + 0 = omega arith in
+    ap (calls_on n) same
+calls_on_more n k (suc j) =
+    let same : suc (k + j) ≡ k + suc j = omega arith in
+    ap next_call (calls_on_more n k j) ∙ ap (calls_on n) same
+
+-- the number of a later call, counted from the beginning
+later : (n m k y x : ℕ) → m ≡ calls_on n k → x ≡ k + y → calls_on m (suc y) ≡ calls_on n (suc x)
+later n m k y x after is =
+    let same : k + suc y ≡ suc x = omega (arith, is) in
+    ap (λ (s : ℕ). calls_on s (suc y)) after ∙ calls_on_more n k (suc y) ∙ ap (calls_on n) same
+
+-- calls without a cut after others
+pub uncut_on : (k r j i : ℕ) (a b c : Meter) → Uncut k r a b → Uncut j i b c → Uncut (k + j) (r + i) a c
+uncut_on k r j i a b c first second = record {
+  size = second.size ∙ first.size;
+  can_cut = second.can_cut ∙ first.can_cut;
+  faults = omega (arith, first.faults, second.faults);
+  no_cut = record { cuts = second.no_cut.cuts ∙ first.no_cut.cuts; power = second.no_cut.power ∙ first.no_cut.power; armed = second.no_cut.armed ∙ first.no_cut.armed };
+  changes = second.changes ∙ ap (λ (s : ℕ). calls_on s j) first.changes ∙ calls_on_more a.changes k j;
+  reads = second.reads ∙ ap (λ (s : ℕ). calls_on s i) first.reads ∙ calls_on_more a.reads r i;
+  passed = λ can on. (changes can on, reads can on);
+}
+  where
+    changes : IsTrue a.can_cut → IsTrue a.power → NoneOfChanges (k + j) a
+    changes can on x below = ⊎_elim (λ low. (first.passed can on).0 x low) (λ high. behind high (high_part x high)) (cases_lt x k)
+      where
+        high_part : (x : ℕ) → k ≤ x → (y : ℕ) × (x ≡ k + y)
+        high_part x high = (x - k, omega (arith, high))
+
+        behind : k ≤ x → (y : ℕ) × (x ≡ k + y) → names_change a.armed (calls_on a.changes (suc x)) ≡ false
+        behind high part =
+            let none = (second.passed (first.can_cut ∙ can) (first.no_cut.power ∙ on)).0 part.0 (omega (arith, below, part.1)) in
+            subst (λ (m : ℕ). names_change a.armed m ≡ false) (later a.changes b.changes k part.0 x first.changes part.1)
+            (subst (λ (o : Option CutAt). names_change o (calls_on b.changes (suc part.0)) ≡ false) first.no_cut.armed none)
+
+    reads : IsTrue a.can_cut → IsTrue a.power → NoneOfReads (r + i) a
+    reads can on x below = ⊎_elim (λ low. (first.passed can on).1 x low) (λ high. behind (high_part x high)) (cases_lt x r)
+      where
+        high_part : (x : ℕ) → r ≤ x → (y : ℕ) × (x ≡ r + y)
+        high_part x high = (x - r, omega (arith, high))
+
+        behind : (y : ℕ) × (x ≡ r + y) → names_read a.armed (calls_on a.reads (suc x)) ≡ false
+        behind part =
+            let none = (second.passed (first.can_cut ∙ can) (first.no_cut.power ∙ on)).1 part.0 (omega (arith, below, part.1)) in
+            subst (λ (m : ℕ). names_read a.armed m ≡ false) (later a.reads b.reads r part.0 x first.reads part.1)
+            (subst (λ (o : Option CutAt). names_read o (calls_on b.reads (suc part.0)) ≡ false) first.no_cut.armed none)
+
+-- a cut inside one of calls after others
+pub cut_on : (k r j i : ℕ) (a b c : Meter) → Uncut k r a b → CutWithin j i b c → CutWithin (k + j) (r + i) a c
+cut_on k r j i a b c first cut = record {
+  size = cut.size ∙ first.size;
+  can_cut = cut.can_cut ∙ first.can_cut;
+  faults = omega (arith, first.faults, cut.faults);
+  comes = record {
+    armed = subst (λ (o : Option CutAt). IsSome o) first.no_cut.armed cut.comes.armed;
+    rose = cut.comes.rose ∙ ap counted first.no_cut.cuts;
+    off = cut.comes.off;
+    disarmed = cut.comes.disarmed;
+  };
+  place = λ can on. there (cut.place (first.can_cut ∙ can) (first.no_cut.power ∙ on));
+}
+  where
+    there : OneOfChanges j b ⊎ OneOfReads i b → OneOfChanges (k + j) a ⊎ OneOfReads (r + i) a
+    there (inl one) = inl (
+      k + one.0,
+      omega (arith, one.1),
+      subst (λ (m : ℕ). IsTrue (names_change a.armed m)) (later a.changes b.changes k one.0 (k + one.0) first.changes refl)
+          (subst (λ (o : Option CutAt). IsTrue (names_change o (calls_on b.changes (suc one.0)))) first.no_cut.armed one.2),
+    )
+    there (inr one) = inr (
+      r + one.0,
+      omega (arith, one.1),
+      subst (λ (m : ℕ). IsTrue (names_read a.armed m)) (later a.reads b.reads r one.0 (r + one.0) first.reads refl)
+          (subst (λ (o : Option CutAt). IsTrue (names_read o (calls_on b.reads (suc one.0)))) first.no_cut.armed one.2),
+    )
+
+-- a cut inside one of some calls is inside one of more
+pub cut_wider : (k r m n : ℕ) (a b : Meter) → k ≤ m → r ≤ n → CutWithin k r a b → CutWithin m n a b
+cut_wider k r m n a b more longer cut = record { size = cut.size; can_cut = cut.can_cut; faults = cut.faults; comes = cut.comes; place = λ can on. wider (cut.place can on) }
+  where
+    wider : OneOfChanges k a ⊎ OneOfReads r a → OneOfChanges m a ⊎ OneOfReads n a
+    wider (inl one) = inl (one.0, omega (arith, one.1, more), one.2)
+    wider (inr one) = inr (one.0, omega (arith, one.1, longer), one.2)

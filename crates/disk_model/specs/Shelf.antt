@@ -1,7 +1,9 @@
 -- What a shelf is at a moment, and what its calls give and leave.
 use Rattle.std.specs.Prelude.{◌≡◌, ◌⊎◌, ◌≤◌, ◌↔◌, ℕ, Bool, true, false, IsTrue, List, [], ◌∷◌, ◌++◌, Result, Ok, Err, IsErrOf}
+use Rattle.std.proofs.Common.{ap, arith}
 use Rattle.disk_model.specs.Bytes.{IsZeros}
-use Rattle.disk_model.specs.Disk.{DiskState, Only, IsFresh, counted, new_meter}
+use Rattle.disk_model.specs.Disk.{DiskState, Meter, Only, counted, new_meter}
+use Rattle.disk_model.specs.Given.{IsGiven}
 use Rattle.disk_model.specs.declared.shelf.ShelfFault.{ShelfFault}
 use Rattle.disk_model.specs.declared.shelf.ShelfFault.TheVariants as fault
 
@@ -46,9 +48,17 @@ pub record IsZeroDisk (size : ℕ) (disk : DiskState) : Type 0 where
 
 -- a stored disk of at least this size, with the images that the shelf told
 pub record IsStored (size : ℕ) (shelf : ShelfState) (disk : DiskState) : Type 0 where
-  pub fresh : IsFresh disk
-  pub room : size ≤ disk.meter.size
-  pub faults : disk.meter.faults ≡ 0
-  pub cuts : disk.meter.cuts ≡ 0
+  pub given : IsGiven size disk
   pub tells : IsTrue shelf.tells → IsTrue disk.tells
   pub images : IsTrue shelf.tells → (c : List ℕ) → disk.images c ↔ shelf.images c
+
+-- a new disk in memory, and with it any that a shelf gives, is as a program gets one
+pub zeros_given : (size : ℕ) (disk : DiskState) → IsZeroDisk size disk → IsGiven size disk
+zeros_given size disk zero = record {
+  room = omega (arith, ap (λ (m : Meter). m.size) zero.meter);
+  power = ap (λ (m : Meter). m.power) zero.meter;
+  armed = ap (λ (m : Meter). m.armed) zero.meter;
+  faults = ap (λ (m : Meter). m.faults) zero.meter;
+  cuts = ap (λ (m : Meter). m.cuts) zero.meter;
+  only = zero.only;
+}

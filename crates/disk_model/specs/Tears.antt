@@ -1,5 +1,5 @@
 -- What a cut leaves of bytes that were written since the last sync.
-use Rattle.std.specs.Prelude.{◌≡◌, ℕ, ◌<◌, min, Bool, false, IsTrue, List, length, get_or}
+use Rattle.std.specs.Prelude.{◌≡◌, ℕ, ◌<◌, min, Bool, true, false, IsTrue, List, length, get_or}
 use Rattle.disk_model.specs.declared.disk.Tear.{Tear}
 use Rattle.disk_model.specs.declared.disk.Tear.TheVariants.{Old, New, Front, Fill}
 
@@ -25,3 +25,8 @@ pub record TornBy (tear : Tear) (synced : List ℕ) (pending : List Bool) (old n
   pub size : length new ≡ length old
   pub torn : (k : ℕ) → k < length old → IsTrue (get_or pending k false) → get_or new k 0 ≡ torn_byte tear (get_or synced k 0) (get_or old k 0)
   pub kept : (k : ℕ) → get_or pending k false ≡ false → get_or new k 0 ≡ get_or old k 0
+
+-- what a cut leaves of a byte, pending or not
+abbrev pub torn_or_read : Tear → Bool → ℕ → ℕ → ℕ
+torn_or_read tear true synced written = torn_byte tear synced written
+torn_or_read tear false synced written = written

@@ -1,5 +1,5 @@
-// A disk whose power may be cut inside any call: what a read gives, and what a cut may leave.
-// What was written since the device last confirmed it is lost to a cut, or kept, or neither; the rest is safe.
+//! A disk whose power may be cut inside any call: what a read gives, and what a cut may leave.
+//! What was written since the device last confirmed it is lost to a cut, or kept, or neither; the rest is safe.
 ghost use Rattle.std.specs.Prelude.{◌≡◌, ◌≤◌, ◌+◌, length, IsTrue, IsSome};
 ghost use Rattle.disk_model.specs.Disk.{DiskState, Reads, Writes, Syncs, Arms, Restarts, IsSound};
 

@@ -1,4 +1,4 @@
-// A change that a recording disk keeps.
+//! A change that a recording disk keeps.
 ghost use Rattle.std.specs.Prelude.{◌≡◌, ◌≤◌, length};
 
 /// The longest write that is kept, in bytes.

@@ -1,4 +1,4 @@
-// A disk over a file. What the file holds is the system's to say, so the disk tells nothing of it.
+//! A disk over a file. What the file holds is the system's to say, so the disk tells nothing of it.
 ghost use Rattle.std.specs.Prelude.{◌≡◌, ◌<◌, ◌^◌, ◌≤◌, ◌+◌, length};
 
 use crate::disk::{CutAt, Disk, DiskFault};
@@ -7,12 +7,15 @@ use std::fs::File;
 use std::io;
 use std::os::unix::fs::FileExt;
 
-/// The first bytes of a file as a disk. It cannot be cut.
+/// The first bytes of a file as a disk. It cannot be cut. A system may forget what it could not write and call the next
+/// sync Ok, so after a sync that failed each later write and sync fails, until the file is opened anew.
 #[derive(Drop)]
 pub struct FileDisk {
     file: File,
     size: u64,
     tally: Tally,
+    /// Whether a sync failed.
+    distrusted: bool,
     ghost small: { size < 2 ^ 64 },
 }
 
@@ -59,23 +62,31 @@ impl FileDisk {
     pub fn new(file: File, size: u64) -> FileDisk
         ensures tells { (state_of result).tells ≡ false }
         ensures meter { (state_of result).meter ≡ new_meter size false }
+        ensures trusted { result.distrusted ≡ false }
     {
         FileDisk {
             file,
             size,
             tally: Tally::new(),
+            distrusted: false,
         }
     }
 }
 
 impl Disk for FileDisk {
+    ghost use Rattle.std.specs.Prelude.{IsTrue, IsSome, IsErrOf, is_err};
+    ghost use Rattle.disk_model.specs.Disk.{Reads, Writes, Syncs, Arms, Restarts};
+    ghost use Rattle.disk_model.specs.declared.disk.DiskFault.TheVariants as fault;
     ghost use Rattle.disk_model.specs.File.{state_of, state_sound};
 
     ghost state = { state_of };
 
     ghost sound = { state_sound };
 
-    fn read_at(&mut self, at: u64, buf: &mut [u8]) -> Result<(), DiskFault> {
+    fn read_at(&mut self, at: u64, buf: &mut [u8]) -> Result<(), DiskFault>
+        ensures call { Reads at (length buf.old) (state_of self.old) (state_of self.new) buf.new result }
+        ensures distrusted { self.new.distrusted ≡ self.old.distrusted }
+    {
         self.tally.count_read();
         match read_or_zero(&self.file, self.size, at, buf) {
             Ok(()) => Ok(()),
@@ -86,8 +97,17 @@ impl Disk for FileDisk {
         }
     }
 
-    fn write_at(&mut self, at: u64, bytes: &[u8]) -> Result<(), DiskFault> {
+    fn write_at(&mut self, at: u64, bytes: &[u8]) -> Result<(), DiskFault>
+        requires { at + length bytes.now ≤ (state_of self.old).meter.size }
+        ensures call { Writes at bytes.now (state_of self.old) (state_of self.new) result }
+        ensures refused { IsTrue self.old.distrusted → IsErrOf result fault.Failed }
+        ensures distrusted { self.new.distrusted ≡ self.old.distrusted }
+    {
         self.tally.count_change();
+        if self.distrusted {
+            self.tally.count_fault();
+            return Err(DiskFault::Failed);
+        }
         match self.file.write_all_at(bytes, at) {
             Ok(()) => Ok(()),
             Err(_) => {
@@ -97,25 +117,41 @@ impl Disk for FileDisk {
         }
     }
 
-    fn sync(&mut self) -> Result<(), DiskFault> {
+    fn sync(&mut self) -> Result<(), DiskFault>
+        ensures call { Syncs (state_of self.old) (state_of self.new) result }
+        ensures refused { IsTrue self.old.distrusted → IsErrOf result fault.Failed }
+        ensures distrusted { self.new.distrusted ≡ is_err result }
+    {
         self.tally.count_change();
+        if self.distrusted {
+            self.tally.count_fault();
+            return Err(DiskFault::Failed);
+        }
         match self.file.sync_all() {
             Ok(()) => Ok(()),
             Err(_) => {
+                self.distrusted = true;
                 self.tally.count_fault();
                 Err(DiskFault::Failed)
             }
         }
     }
 
-    fn arm(&mut self, cut: Option<CutAt>) {
+    fn arm(&mut self, cut: Option<CutAt>)
+        requires { IsSome cut → IsTrue (state_of self.old).meter.can_cut }
+        ensures call { Arms cut (state_of self.old) (state_of self.new) }
+        ensures distrusted { self.new.distrusted ≡ self.old.distrusted }
+    {
         match cut {
             Some(_) => unreachable!(),
             None => self.tally.number_anew(),
         }
     }
 
-    fn restart(&mut self) {}
+    fn restart(&mut self)
+        ensures call { Restarts (state_of self.old) (state_of self.new) }
+        ensures distrusted { self.new.distrusted ≡ self.old.distrusted }
+    {}
 
     fn can_cut(&self) -> bool {
         false

@@ -1,4 +1,4 @@
-// A shelf over files, each of which is one disk.
+//! A shelf over files, each of which is one disk.
 ghost use Rattle.std.specs.Prelude.{◌≡◌};
 ghost use Rattle.disk_model.specs.Disk.{counted};
 
@@ -9,6 +9,8 @@ use crate::shelf::{Shelf, ShelfFault};
 use crate::tally::counted;
 use std::alloc::Global;
 use std::fs::{File, OpenOptions};
+use std::io;
+use std::path::Path;
 use std::rt::Files;
 
 /// A disk that a shelf over files gives.
@@ -68,7 +70,60 @@ impl Disk for ShelfDisk {
     }
 }
 
-/// A shelf whose `open` opens the file of this path, for reading and writing.
+/// The folder of the file of this path.
+fn folder_of(path: &str) -> &str {
+    match Path::new(path).parent() {
+        Some(folder) => match folder.as_str() {
+            "" => ".",
+            text => text,
+        },
+        None => ".",
+    }
+}
+
+/// Opens a file for reading and writing, and locks it against every other opening.
+fn open_locked<R: Files<File = File>>(
+    files: &R,
+    how: &mut OpenOptions,
+    path: &str,
+) -> io::Result<File> {
+    let file = how.read(true).write(true).open(files, path)?;
+    file.try_lock()?;
+    Ok(file)
+}
+
+/// Sees that the folder of the file of this path keeps it.
+fn sync_folder<R: Files<File = File>>(files: &R, path: &str) -> io::Result<()> {
+    OpenOptions::new()
+        .read(true)
+        .open(files, folder_of(path))?
+        .sync_all()
+}
+
+/// Makes a file that is not there. One that its folder may lose is taken away again, so that the next opening makes it anew.
+fn make_locked<R: Files<File = File>>(files: &R, path: &str) -> io::Result<File> {
+    let file = open_locked(files, OpenOptions::new().create_new(true), path)?;
+    match sync_folder(files, path) {
+        Ok(()) => Ok(file),
+        Err(refused) => {
+            let _removed = files.remove_file(path);
+            Err(refused)
+        }
+    }
+}
+
+/// The locked file of this path, which with `create` is made where it is missing.
+fn locked_file<R: Files<File = File>>(files: &R, path: &str, create: bool) -> io::Result<File> {
+    match open_locked(files, &mut OpenOptions::new(), path) {
+        Err(missing) if create && missing.kind() == io::ErrorKind::NotFound => {
+            make_locked(files, path)
+        }
+        found => found,
+    }
+}
+
+/// A shelf whose `open` opens the file of this path, for reading and writing, and locks it: a file that another program
+/// holds, or another disk of this one, is a fault. The lock goes with the disk.
 #[derive(Drop)]
 pub struct FileShelf<R: Files<File = File>> {
     files: R,
@@ -104,12 +159,7 @@ impl<R: Files<File = File>> Shelf for FileShelf<R> {
         size: u64,
         create: bool,
     ) -> Result<ShelfDisk, ShelfFault> {
-        match OpenOptions::new()
-            .read(true)
-            .write(true)
-            .create(create)
-            .open(&self.files, path)
-        {
+        match locked_file(&self.files, path, create) {
             Ok(file) => Ok(ShelfDisk::File(FileDisk::new(file, size))),
             Err(_) => {
                 self.faults = counted(self.faults);

@@ -1,5 +1,5 @@
-// A disk in memory that can be cut and made to fail, and takes all its memory when it is made.
-// It tells what a read gives and the images of now; a list of the images since would grow.
+//! A disk in memory that can be cut and made to fail, and takes all its memory when it is made.
+//! It tells what a read gives and the images of now; a list of the images since would grow.
 ghost use Rattle.std.specs.Prelude.{◌≡◌};
 
 use crate::bytes::applied;

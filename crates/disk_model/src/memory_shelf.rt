@@ -1,4 +1,4 @@
-// A shelf in memory, which gives one kept disk once and lists its calls.
+//! A shelf in memory, which gives one kept disk once and lists its calls.
 ghost use Rattle.std.specs.Prelude.{◌≡◌, ◌≤◌};
 ghost use Rattle.disk_model.specs.Disk.{counted};
 

@@ -1,4 +1,4 @@
-// The power of a disk in memory: which call fails, which is cut, and how the cut tears what was written.
+//! The power of a disk in memory: which call fails, which is cut, and how the cut tears what was written.
 ghost use Rattle.std.specs.Prelude.{◌≡◌, ◌↔◌, ℕ, true, false, IsSome, IsTrue};
 ghost use Rattle.disk_model.specs.Disk.{counted, AfterChange, AfterRead, names_change, names_read};
 ghost use Rattle.disk_model.specs.Power.{meter_of, answer_of, new_power, renewed, change_step, read_step, after_change, after_read, tear_of_change, tear_of_read, fails_at, armed_anew};
@@ -55,7 +55,7 @@ fn tear_of_read(armed: Option<CutAt>, n: u64) -> Option<Tear>
 }
 
 /// Whether this call of this life is listed.
-fn fails_at(fails: &[(u16, u32)], life: u64, call: u64) -> bool
+pub fn fails_at(fails: &[(u16, u32)], life: u64, call: u64) -> bool
     ensures { result ≡ fails_at life call fails.now }
 {
     for fail in fails {

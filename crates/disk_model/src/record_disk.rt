@@ -1,4 +1,4 @@
-// A disk in memory that keeps its changing calls, and so tells each image since a moment. It cannot be cut.
+//! A disk in memory that keeps its changing calls, and so tells each image since a moment. It cannot be cut.
 ghost use Rattle.std.specs.Prelude.{◌≡◌, ◌≤◌, ◌<◌, ◌+◌, ◌*◌, ◌^◌, length, vec_len, vec_capacity};
 ghost use Rattle.disk_model.specs.Entries.{changes_of, restart_room};
 ghost use Rattle.disk_model.specs.History.{replay, zero_moment};

@@ -1,4 +1,4 @@
-// A shelf gives a program its one disk: a new one in memory, or the one that is stored.
+//! A shelf gives a program its one disk: a new one in memory, or the one that is stored.
 ghost use Rattle.std.specs.Prelude.{◌≡◌, IfOk, OnErr};
 ghost use Rattle.disk_model.specs.Shelf.{ShelfState, MemoryCall, OpenCall, AfterShelf, SameShelf, IsZeroDisk, IsStored};
 

@@ -1,4 +1,4 @@
-// The counts that every disk keeps: its faults, and its calls since the last `arm`.
+//! The counts that every disk keeps: its faults, and its calls since the last `arm`.
 ghost use Rattle.std.specs.Prelude.{◌≡◌, ◌≤◌};
 ghost use Rattle.disk_model.specs.Disk.{counted, next_call};
 
@@ -13,7 +13,7 @@ pub struct Tally {
 }
 
 /// The number of calls with one more.
-fn next_call(n: u64) -> u64
+pub fn next_call(n: u64) -> u64
     ensures { result ≡ next_call n }
 {
     if n < LAST_CALL { n + 1 } else { LAST_CALL }

@@ -1,7 +1,7 @@
-// What no clause says: the images of a table of cuts, the counts of lives, and that each call can succeed.
+//! What no clause says: the images of a table of cuts, the counts of lives, and that each call can succeed.
 use crate::{
-    CutAt, Disk, DiskFault, FileDisk, FileShelf, MemoryDisk, MemoryShelf, RecordDisk, Shelf,
-    ShelfFault, Tear,
+    CutAt, Disk, DiskFault, FailReads, FileDisk, FileShelf, MemoryDisk, MemoryShelf, RecordDisk,
+    Shelf, ShelfFault, Tear, Untold,
 };
 use std::alloc::{AllocError, Global};
 use std::fs;
@@ -56,6 +56,85 @@ fn a_cut_leaves_the_image_of_its_tear(rt: HostRuntime) -> Result<(), Fail> {
     for (cut, wanted) in rows {
         assert_eq!(rt; bytes_after(rt.alloc(), cut)?, wanted, "{cut:?}");
     }
+    Ok(())
+}
+
+/// The bytes that a restart finds behind this tear of six writes of one byte, at places that do not touch but for the
+/// last, which are more than the ranges that are kept. The byte 9 stood at each place before.
+fn bytes_after_scattered(alloc: Global, tear: Tear) -> Result<[u8; 12], AllocError> {
+    let mut disk = MemoryDisk::new(alloc, 12, Vec::new(alloc))?;
+    let mut bytes = [0; 12];
+    let _written = disk.write_at(0, &[9; 12]);
+    let _synced = disk.sync();
+    disk.arm(Some(CutAt::Read(1, tear)));
+    let _first = disk.write_at(11, &[7]);
+    let _second = disk.write_at(0, &[7]);
+    let _third = disk.write_at(6, &[7]);
+    let _fourth = disk.write_at(2, &[7]);
+    let _fifth = disk.write_at(9, &[7]);
+    let _sixth = disk.write_at(1, &[7]);
+    let _cut = disk.read_at(0, &mut bytes);
+    disk.restart();
+    let _again = disk.read_at(0, &mut bytes);
+    Ok(bytes)
+}
+
+#[test]
+fn a_tear_is_exact_by_byte(rt: HostRuntime) -> Result<(), Fail> {
+    let rows = [
+        (Tear::Old, [9, 9, 9, 9, 9, 9, 9, 9, 9, 9, 9, 9]),
+        (Tear::New, [7, 7, 7, 9, 9, 9, 7, 9, 9, 7, 9, 7]),
+        (Tear::Fill(5), [5, 5, 5, 9, 9, 9, 5, 9, 9, 5, 9, 5]),
+    ];
+    for (tear, wanted) in rows {
+        assert_eq!(rt;
+            bytes_after_scattered(rt.alloc(), tear)?,
+            wanted,
+            "{tear:?}"
+        );
+    }
+    Ok(())
+}
+
+/// Reads of 48 bytes are numbered alone, in each life, and only those that the disk answers Ok.
+#[test]
+fn a_listed_read_fails(rt: HostRuntime) -> Result<(), Fail> {
+    let alloc = rt.alloc();
+    let inside = MemoryDisk::new(alloc, 60, Vec::new(alloc))?;
+    let mut disk = FailReads::new(inside, vec![in alloc; (0, 2), (1, 1)]?);
+    let mut long = [0; 48];
+    let mut short = [0; 47];
+    assert_eq!(rt; disk.write_at(0, &[8; 60]), Ok(()));
+    assert_eq!(rt; disk.read_at(0, &mut long), Ok(()));
+    assert_eq!(rt; disk.read_at(0, &mut short), Ok(()));
+    assert_eq!(rt; disk.read_at(0, &mut long), Err(DiskFault::Failed));
+    assert_eq!(rt; disk.read_at(0, &mut long), Ok(()));
+    disk.arm(Some(CutAt::Read(1, Tear::New)));
+    assert_eq!(rt; disk.read_at(0, &mut long), Err(DiskFault::Cut));
+    disk.restart();
+    assert_eq!(rt; disk.read_at(0, &mut long), Err(DiskFault::Failed));
+    assert_eq!(rt; disk.sync(), Ok(()));
+    assert_eq!(rt; disk.can_cut(), true);
+    let mut inside = disk.into_inner();
+    assert_eq!(rt; inside.read_at(58, &mut short), Ok(()));
+    assert_eq!(rt; [short[0], short[1], short[2]], [8, 8, 0]);
+    Ok(())
+}
+
+#[test]
+fn an_untold_disk_works_as_the_one_inside(rt: HostRuntime) -> Result<(), Fail> {
+    let alloc = rt.alloc();
+    let inside = MemoryDisk::new(alloc, 3, Vec::new(alloc))?;
+    let mut disk = Untold { disk: inside };
+    let mut got = [0; 3];
+    disk.arm(Some(CutAt::Change(3, Tear::Old)));
+    assert_eq!(rt; disk.write_at(1, &[6]), Ok(()));
+    assert_eq!(rt; disk.sync(), Ok(()));
+    assert_eq!(rt; disk.write_at(1, &[7]), Err(DiskFault::Cut));
+    disk.restart();
+    assert_eq!(rt; disk.read_at(0, &mut got), Ok(()));
+    assert_eq!(rt; got, [0, 6, 0]);
+    assert_eq!(rt; disk.can_cut(), true);
     Ok(())
 }
 
@@ -141,7 +220,7 @@ fn a_shelf_in_memory_gives_its_disk_once(rt: HostRuntime) -> Result<(), Fail> {
     Ok(())
 }
 
-/// A file that is not there is made only where that is asked, and then has zeros.
+/// A file that is not there is made only where that is asked, and then has zeros. One disk at a time holds it.
 #[test]
 fn a_shelf_over_files_makes_a_file(rt: HostRuntime) -> Result<(), Fail> {
     let path = "file_that_a_shelf_makes";
@@ -151,10 +230,16 @@ fn a_shelf_over_files_makes_a_file(rt: HostRuntime) -> Result<(), Fail> {
         shelf.open(rt.alloc(), path, 2, false).err(),
         Some(ShelfFault::Failed)
     );
-    let mut made = shelf.open(rt.alloc(), path, 2, true)?;
-    assert_eq!(rt; made.read_at(0, &mut got), Ok(()));
-    assert_eq!(rt; got, [0, 0, 0]);
-    assert_eq!(rt; made.write_at(1, &[7]), Ok(()));
+    {
+        let mut made = shelf.open(rt.alloc(), path, 2, true)?;
+        assert_eq!(rt; made.read_at(0, &mut got), Ok(()));
+        assert_eq!(rt; got, [0, 0, 0]);
+        assert_eq!(rt; made.write_at(1, &[7]), Ok(()));
+        assert_eq!(rt;
+            shelf.open(rt.alloc(), path, 2, true).err(),
+            Some(ShelfFault::Failed)
+        );
+    }
     let mut again = shelf.open(rt.alloc(), path, 2, true)?;
     assert_eq!(rt; again.read_at(0, &mut got), Ok(()));
     assert_eq!(rt; got, [0, 7, 0]);
