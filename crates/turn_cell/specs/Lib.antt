@@ -1,0 +1,5 @@
+pub mod Queue
+pub mod Legal
+pub mod TableRuled
+pub mod Turn
+pub mod Seats
