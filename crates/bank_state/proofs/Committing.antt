@@ -64,7 +64,7 @@ unchanged parts Fence = refl
 unchanged parts Safe = refl
 
 module _ (parts : Parts) (kind : PlanType) (head : PlanHead) (payload : List ℕ) (old new : DiskState) (sound_old : IsSound old) (sound : IsSound new) (store : IsStore parts old) (calm : parts.doubt ≡ None)
-    (newer : (banks_of parts kind).head.id < head.id) (within : head.count ≤ limit_of kind) (named : StateRecord kind payload (1 - (banks_of parts kind).bank) head)
+    (newer : (banks_of parts kind).head.id < head.id) (within : head.count ≤ limit_of kind) (named : StateRecord (limit_of kind) payload (1 - (banks_of parts kind).bank) head)
     (written : IsTrue old.tells → HasItems kind (1 - (banks_of parts kind).bank) (plan_in kind (1 - (banks_of parts kind).bank) head old.seen) old.seen)
     (valid : IsTrue old.tells → PlanValid kind (items_in kind (1 - (banks_of parts kind).bank) head.count old.seen))
     (run : Run (banks_of parts kind).cell.place.at (2 * (banks_of parts kind).cell.place.slot_bytes) (Swaps (banks_of parts kind).cell payload old) old new) where

@@ -1,4 +1,6 @@
 -- A mark that is stored: one change of the mark's cell.
+use Rattle.dataman_layout.specs.Layouts.{most_pairs}
+use Rattle.dataman_layout.specs.declared.layout.Layout.TheVariants.{Two}
 use Rattle.std.proofs.Common.{◌≡◌, ◌⊎◌, ◌*◌, ◌-◌, ◌^◌, ℕ, Bool, true, false, cond, IsTrue, List, Option, Some, None, inl, inr, ⊎_elim, sym, ap, subst, ◌∙◌}
 use Rattle.std.specs.Prelude.{Result, Ok, Err, IfErr}
 use Rattle.mission_model.specs.declared.counts.Mark.{Mark}
@@ -33,7 +35,7 @@ use Rattle.bank_state.proofs.MarkChange as change
 use Rattle.bank_state.proofs.Refusing.{calm_choice, doubt_choice, unopened_flag, unopened_place, unopened_generation}
 
 module _ (parts : Parts) (mark : Mark) (payload : List ℕ) (old new : DiskState) (sound_old : IsSound old) (sound : IsSound new) (store : IsStore parts old) (calm : parts.doubt ≡ None)
-    (holds : MarkRecord payload (plain_mark mark)) (fits : IsTrue old.tells → MarkFits (plain_mark mark) (plan_by (ledger_of parts) Mission old.seen))
+    (holds : MarkRecord (most_pairs Two) payload (plain_mark mark)) (fits : IsTrue old.tells → MarkFits (plain_mark mark) (plan_by (ledger_of parts) Mission old.seen))
     (run : Run parts.mark_cell.place.at (2 * parts.mark_cell.place.slot_bytes) (Swaps parts.mark_cell payload old) old new) where
   abbrev cell : GatedCell
   cell = parts.mark_cell

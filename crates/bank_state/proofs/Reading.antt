@@ -1,4 +1,5 @@
 -- A read of the disk leaves the store as it is, and gives the item of the plan.
+use Rattle.dataman_layout.specs.declared.layout.Layout.TheVariants.{Two}
 use Rattle.std.proofs.Common.{◌≡◌, ◌+◌, ◌<◌, ◌&&◌, ◌==◌, cond, ℕ, Bool, true, false, IsTrue, List, Option, Some, None, slice_get, refl, sym, ap, subst, ◌∙◌, arith}
 use Rattle.std.specs.Prelude.{◌-◌, IsSome, Ok}
 use Rattle.std.proofs.lemmas.Bool.Decides.{nat_tests}
@@ -95,7 +96,7 @@ item_by-record kind id seq item = ap (λ (b : Bool). cond b (Some item) None) (a
 
 -- what a read gives of a plan that stands
 pub item_read : (kind : PlanType) (doubted : Bool) (banks : PlanBanks) (seq : ℕ) (old new : DiskState) (got : List ℕ) (found : Option Record) (r : Option Item) (u : Unit {0}) → BanksStand kind doubted banks old → seq < banks.head.count
-    → Reads (record_at kind banks.bank seq) 48 old new got (Ok u) → found ≡ item_in got → r ≡ item_by kind banks.head.id seq found
+    → Reads (record_at Two kind banks.bank seq) 48 old new got (Ok u) → found ≡ item_in got → r ≡ item_by kind banks.head.id seq found
     → IsTrue old.tells → IsSome r × r ≡ slice_get (items_in kind banks.bank banks.head.count old.seen) seq
 item_read kind doubted banks seq old new got found r u stand below reads is by told =
     let item = item_of (record_in kind banks.bank seq old.seen) in

@@ -1,4 +1,5 @@
 -- A write of a record into the spare bank.
+use Rattle.dataman_layout.specs.declared.layout.Layout.TheVariants.{Two}
 use Rattle.std.proofs.Common.{◌≡◌, ◌⊎◌, ◌-◌, ◌<◌, ◌&&◌, ◌==◌, ℕ, zero, suc, Bool, true, false, IsTrue, List, length, Some, None, inl, inr, ⊎_elim, refl, sym, ap, subst, ◌∙◌, arith}
 use Rattle.std.specs.Prelude.{Result, Ok, Err, OnOk}
 use Rattle.std.proofs.lemmas.Bool.{cases_eq, true≢false}
@@ -26,10 +27,10 @@ use Rattle.bank_state.specs.Standing.{Calm, calm_of, store_of, shows_now, shows_
 
 -- the record that was written is read there
 pub written : (kind : PlanType) (bank seq : ℕ) (bytes : List ℕ) (r : Record) (old new : DiskState) (result : Result (Unit {0}) DiskFault) → length bytes ≡ 48 → item_in bytes ≡ Some r
-    → Writes (record_at kind bank seq) bytes old new result → OnOk result (IsTrue new.tells → record_in kind bank seq new.seen ≡ Some r)
+    → Writes (record_at Two kind bank seq) bytes old new result → OnOk result (IsTrue new.tells → record_in kind bank seq new.seen ≡ Some r)
 written kind bank seq bytes r old new (Ok u) long reads writes = λ told.
     let holds = writes.written (subst (λ (b : Bool). IsTrue b) writes.time.tells told) in
-    ap (λ (n : ℕ). item_in (field (record_at kind bank seq) n new.seen)) (sym long) ∙ ap item_in holds.here ∙ reads
+    ap (λ (n : ℕ). item_in (field (record_at Two kind bank seq) n new.seen)) (sym long) ∙ ap item_in holds.here ∙ reads
 written kind bank seq bytes r old new (Err e) long reads writes = tt
 
 bank_rank_is : (bank : ℕ) → bank < 2 → bank_rank bank ≡ bank
@@ -42,33 +43,33 @@ all_true a b c x y z = λ i. x i && y i && z i
 
 -- records at two places of the banks of one type are apart
 apart_one : (kind : PlanType) (bank side seq place : ℕ) → side < 2 → bank < 2 → seq < limit_of kind → place < limit_of kind → ((is_kind kind kind && side == bank && place == seq) ≡ false)
-    → Apart (record_at kind side place) 48 (record_at kind bank seq) 48
+    → Apart (record_at Two kind side place) 48 (record_at Two kind bank seq) 48
 apart_one kind bank side seq place low small within below other = ⊎_elim same_bank other_bank (cases_eq side bank)
   where
-    other_bank : (side ≡ bank → ⊥) → Apart (record_at kind side place) 48 (record_at kind bank seq) 48
-    other_bank differ = record_off kind side place (record_at kind bank seq) 48 below
+    other_bank : (side ≡ bank → ⊥) → Apart (record_at Two kind side place) 48 (record_at Two kind bank seq) 48
+    other_bank differ = record_off kind side place (record_at Two kind bank seq) 48 below
         (record_is_off kind bank seq (Bank kind side) within (λ same. differ (omega (arith, same, bank_rank_is bank small, bank_rank_is side low))))
 
-    same_bank : side ≡ bank → Apart (record_at kind side place) 48 (record_at kind bank seq) 48
+    same_bank : side ≡ bank → Apart (record_at Two kind side place) 48 (record_at Two kind bank seq) 48
     same_bank is = ⊎_elim
         (λ same. absurd (true≢false (sym (all_true (is_kind kind kind) (side == bank) (place == seq) (is_kind_same kind) (grind (arith, nat_tests, is)) (grind (arith, nat_tests, same))) ∙ other)))
-        (λ differ. subst (λ (b : ℕ). Apart (record_at kind b place) 48 (record_at kind bank seq) 48) (sym is) (records_apart kind bank place seq differ))
+        (λ differ. subst (λ (b : ℕ). Apart (record_at Two kind b place) 48 (record_at Two kind bank seq) 48) (sym is) (records_apart Two kind bank place seq differ))
         (cases_eq place seq)
 
 apart_in : (kind k : PlanType) (bank side seq place : ℕ) → kind ≡ k → side < 2 → bank < 2 → seq < limit_of kind → place < limit_of k → ((is_kind k kind && side == bank && place == seq) ≡ false)
-    → Apart (record_at k side place) 48 (record_at kind bank seq) 48
+    → Apart (record_at Two k side place) 48 (record_at Two kind bank seq) 48
 apart_in kind k bank side seq place same low small within below other =
-    subst (λ (x : PlanType). place < limit_of x → ((is_kind x kind && side == bank && place == seq) ≡ false) → Apart (record_at x side place) 48 (record_at kind bank seq) 48) same
+    subst (λ (x : PlanType). place < limit_of x → ((is_kind x kind && side == bank && place == seq) ≡ false) → Apart (record_at Two x side place) 48 (record_at Two kind bank seq) 48) same
     (apart_one kind bank side seq place low small within) below other
 
 module _ (parts : Parts) (kind : PlanType) (seq : ℕ) (bytes : List ℕ) (old new : DiskState) (result : Result (Unit {0}) DiskFault) (sound_old : IsSound old) (sound_new : IsSound new)
     (store : IsStore parts old) (calm : parts.doubt ≡ None) (within : seq < limit_of kind) (long : length bytes ≡ 48)
-    (writes : Writes (record_at kind (1 - (banks_of parts kind).bank) seq) bytes old new result) where
+    (writes : Writes (record_at Two kind (1 - (banks_of parts kind).bank) seq) bytes old new result) where
   abbrev spare : ℕ
   spare = 1 - (banks_of parts kind).bank
 
   abbrev at : ℕ
-  at = record_at kind spare seq
+  at = record_at Two kind spare seq
 
   abbrev Any : List ℕ → Type 0
   Any c = Unit {0}
@@ -129,6 +130,6 @@ module _ (parts : Parts) (kind : PlanType) (seq : ℕ) (bytes : List ℕ) (old n
   pub others : IsTrue new.tells → OtherRecords kind spare seq old new
   others told k side place low below other = record_stays k side place at 48 old.seen new.seen (apart (same_or_differ kind k)) (run.reads told)
     where
-      apart : (kind ≡ k) ⊎ Differ kind k → Apart (record_at k side place) 48 at 48
+      apart : (kind ≡ k) ⊎ Differ kind k → Apart (record_at Two k side place) 48 at 48
       apart (inr differ) = record_off k side place at 48 below (off_other k side differ)
       apart (inl same) = apart_in kind k spare side seq place same low (omega arith) within below other

@@ -13,11 +13,13 @@ use Rattle.gated_cell.specs.declared.place.CellPlace.{CellPlace}
 use Rattle.gated_cell.specs.Beside.{IsBeside}
 use Rattle.dataman_layout.specs.Item.{item_in}
 use Rattle.dataman_layout.specs.Places.{Part, Compat, State, TheMark, Bank, place_of, size_of, rank, type_rank, bank_rank, record_at}
-use Rattle.dataman_layout.specs.PlaceLaws.{compat_is, mark_is, state_is, bank_is, parts_apart, record_within, record_apart}
+use Rattle.dataman_layout.specs.declared.layout.Layout.{Layout}
+use Rattle.dataman_layout.specs.declared.layout.Layout.TheVariants.{Two}
+use Rattle.dataman_layout.specs.PlaceLaws.{parts_apart, record_within, record_apart}
 use Rattle.plan_store.specs.StoreState.{StoredPlan}
 use Rattle.bank_state.specs.Plans.{head_of}
-use Rattle.bank_state.specs.StandsFor.{compat_place, state_place, mark_place, record_in, HasItems}
-use Rattle.bank_state.specs.Ledger.{item_of, items_in, plan_in}
+use Rattle.bank_state.specs.StandsFor.{compat_place, state_place, mark_place, record_in, record_of, HasItems}
+use Rattle.bank_state.specs.Ledger.{item_of, items_read, plan_read, items_in, plan_in}
 
 -- types that differ
 abbrev pub Differ : PlanType → PlanType → Type 0
@@ -30,22 +32,20 @@ rank_low Safe = omega arith
 
 -- n bytes from `at` on are none of this part's
 abbrev pub IsOff : ℕ → ℕ → Part → Type 0
-IsOff at n part = Apart (place_of part) (size_of part) at n
+IsOff at n part = Apart (place_of Two part) (size_of Two part) at n
 
 -- nor of a record's in a bank
-pub record_off : (kind : PlanType) (bank seq at n : ℕ) → seq < limit_of kind → IsOff at n (Bank kind bank) → Apart (record_at kind bank seq) 48 at n
+pub record_off : (kind : PlanType) (bank seq at n : ℕ) → seq < limit_of kind → IsOff at n (Bank kind bank) → Apart (record_at Two kind bank seq) 48 at n
 record_off kind bank seq at n within (inl before) =
-    let is = bank_is kind bank in
-    let inside = record_within kind bank seq within in
-    inl (omega (arith, is.0, is.1, inside.1, before))
+    let inside = record_within Two kind bank seq within in
+    inl (omega (arith, inside.1, before))
 record_off kind bank seq at n within (inr behind) =
-    let is = bank_is kind bank in
-    let inside = record_within kind bank seq within in
-    inr (omega (arith, is.0, inside.0, behind))
+    let inside = record_within Two kind bank seq within in
+    inr (omega (arith, inside.0, behind))
 
 -- a record apart from what was written is read as before
-pub record_stays : (kind : PlanType) (bank seq at n : ℕ) (d c : List ℕ) → Apart (record_at kind bank seq) 48 at n → Torn at n d c → record_in kind bank seq c ≡ record_in kind bank seq d
-record_stays kind bank seq at n d c apart torn = ap item_in (field_apart (record_at kind bank seq) 48 at n d c apart torn)
+pub record_stays : (kind : PlanType) (bank seq at n : ℕ) (d c : List ℕ) → Apart (record_at Two kind bank seq) 48 at n → Torn at n d c → record_in kind bank seq c ≡ record_in kind bank seq d
+record_stays kind bank seq at n d c apart torn = ap item_in (field_apart (record_at Two kind bank seq) 48 at n d c apart torn)
 
 item_below : (items : List Item) (seq : ℕ) (item : Item) → slice_get items seq ≡ Some item → seq < length items
 item_below [] seq item at = absurd (cc at)
@@ -58,13 +58,20 @@ items_stay kind bank at n plan d c within off torn has = λ seq item is.
     let below : seq < limit_of kind = omega (arith, item_below plan.items seq item is, within) in
     record_stays kind bank seq at n d c (record_off kind bank seq at n below off) torn ∙ has seq item is
 
+pub length-items_read : (layout : Layout) (kind : PlanType) (bank n : ℕ) (image : List ℕ) → length (items_read layout kind bank n image) ≡ n
+length-items_read layout kind bank zero image = refl
+length-items_read layout kind bank (suc n) image =
+    omega (arith, length-items_read layout kind bank n image, length_push (items_read layout kind bank n image) (item_of (record_of layout kind bank n image)))
+
 pub length-items_in : (kind : PlanType) (bank n : ℕ) (image : List ℕ) → length (items_in kind bank n image) ≡ n
-length-items_in kind bank zero image = refl
-length-items_in kind bank (suc n) image = omega (arith, length-items_in kind bank n image, length_push (items_in kind bank n image) (item_of (record_in kind bank n image)))
+length-items_in kind bank n image = length-items_read Two kind bank n image
 
 -- a plan is read under its head
+pub head_of-plan_read : (layout : Layout) (kind : PlanType) (bank : ℕ) (head : PlanHead) (image : List ℕ) → head_of (plan_read layout kind bank head image) ≡ head
+head_of-plan_read layout kind bank head image = λ i. record { id = head.id; count = length-items_read layout kind bank head.count image i }
+
 pub head_of-plan_in : (kind : PlanType) (bank : ℕ) (head : PlanHead) (image : List ℕ) → head_of (plan_in kind bank head image) ≡ head
-head_of-plan_in kind bank head image = λ i. record { id = head.id; count = length-items_in kind bank head.count image i }
+head_of-plan_in kind bank head image = head_of-plan_read Two kind bank head image
 
 -- records that are read as before make the same items
 pub items_same : (kind : PlanType) (bank n : ℕ) (d c : List ℕ) → ((seq : ℕ) → seq < n → record_in kind bank seq c ≡ record_in kind bank seq d) → items_in kind bank n c ≡ items_in kind bank n d
@@ -82,16 +89,16 @@ plan_same kind bank head at n d c within off torn =
 
 -- a cell that stands in a part of the store
 abbrev pub Fills : CellPlace → Part → Type 0
-Fills place part = (place_of part ≡ place.at) × (size_of part ≡ 2 * place.slot_bytes)
+Fills place part = (place_of Two part ≡ place.at) × (size_of Two part ≡ 2 * place.slot_bytes)
 
 pub compat_fills : Fills compat_place Compat
-compat_fills = compat_is
+compat_fills = (refl, refl)
 
 pub state_fills : (kind : PlanType) → Fills (state_place kind) (State kind)
-state_fills kind = state_is kind
+state_fills kind = (refl, refl)
 
 pub mark_fills : Fills mark_place TheMark
-mark_fills = mark_is
+mark_fills = (refl, refl)
 
 pub cell_beside : (place : CellPlace) (part : Part) (at n : ℕ) → Fills place part → IsOff at n part → IsBeside at n place
 cell_beside place part at n fills (inl before) = inl (omega (arith, fills.0, fills.1, before))
@@ -99,9 +106,9 @@ cell_beside place part at n fills (inr behind) = inr (omega (arith, fills.0, beh
 
 -- the bytes of another part are off it
 pub part_off : (place : CellPlace) (part other : Part) → Fills place part → (rank other ≡ rank part → ⊥) → IsOff place.at (2 * place.slot_bytes) other
-part_off place part other fills differ = sides (parts_apart other part differ)
+part_off place part other fills differ = sides (parts_apart Two other part differ)
   where
-    sides : Apart (place_of other) (size_of other) (place_of part) (size_of part) → IsOff place.at (2 * place.slot_bytes) other
+    sides : Apart (place_of Two other) (size_of Two other) (place_of Two part) (size_of Two part) → IsOff place.at (2 * place.slot_bytes) other
     sides (inl before) = inl (omega (arith, fills.0, before))
     sides (inr behind) = inr (omega (arith, fills.0, fills.1, behind))
 
@@ -137,10 +144,10 @@ spare_not a (suc zero) low same = absurd (omega (arith, same))
 spare_not a (suc (suc bank)) low same = absurd (omega (arith, low))
 
 -- a record of one bank is off another part
-pub record_is_off : (kind : PlanType) (bank seq : ℕ) (part : Part) → seq < limit_of kind → (rank (Bank kind bank) ≡ rank part → ⊥) → IsOff (record_at kind bank seq) 48 part
-record_is_off kind bank seq part within differ = turned (record_apart kind bank seq part within differ)
+pub record_is_off : (kind : PlanType) (bank seq : ℕ) (part : Part) → seq < limit_of kind → (rank (Bank kind bank) ≡ rank part → ⊥) → IsOff (record_at Two kind bank seq) 48 part
+record_is_off kind bank seq part within differ = turned (record_apart Two kind bank seq part within differ)
   where
-    turned : Apart (record_at kind bank seq) 48 (place_of part) (size_of part) → IsOff (record_at kind bank seq) 48 part
+    turned : Apart (record_at Two kind bank seq) 48 (place_of Two part) (size_of Two part) → IsOff (record_at Two kind bank seq) 48 part
     turned (inl before) = inr before
     turned (inr behind) = inl behind
 

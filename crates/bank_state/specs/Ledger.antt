@@ -9,6 +9,8 @@ use Rattle.mission_model.specs.declared.counts.Mark.{Mark}
 use Rattle.mission_model.specs.Command.{is_kind}
 use Rattle.gated_cell.specs.declared.cell.GatedCell.{GatedCell}
 use Rattle.dataman_layout.specs.declared.item.Record.{Record}
+use Rattle.dataman_layout.specs.declared.layout.Layout.{Layout}
+use Rattle.dataman_layout.specs.declared.layout.Layout.TheVariants.{Two}
 use Rattle.dataman_layout.specs.Mark.{PlainMark, plain_mark, plain_marks}
 use Rattle.bank_state.specs.declared.parts.PlanBanks.{PlanBanks}
 use Rattle.bank_state.specs.declared.parts.Parts.{Parts}
@@ -16,7 +18,7 @@ use Rattle.bank_state.specs.declared.parts.Doubt.{Doubt}
 use Rattle.bank_state.specs.declared.parts.Doubt.TheVariants as doubt
 use Rattle.plan_store.specs.StoreState.{StoredPlan, Change, Commit, SetMark, first_mark}
 use Rattle.bank_state.specs.Plans.{Holding}
-use Rattle.bank_state.specs.StandsFor.{record_in}
+use Rattle.bank_state.specs.StandsFor.{record_of}
 
 -- the banks of a plan type
 abbrev pub banks_of : Parts → PlanType → PlanBanks
@@ -100,14 +102,21 @@ abbrev pub item_of : Option Record → Item
 item_of (Some r) = r.item
 item_of None = record { frame = 0; command = 0; p1 = Unset; p2 = Unset; p3 = Unset; p4 = Unset; x = pos 0; y = pos 0; z = pos 0; auto = false }
 
--- the first n items in a bank, as they are read
-abbrev pub items_in : PlanType → ℕ → ℕ → List ℕ → List Item
-items_in kind bank zero image = []
-items_in kind bank (suc n) image = items_in kind bank n image ++ item_of (record_in kind bank n image) ∷ []
+-- the first n items in a bank of a layout, as they are read
+abbrev pub items_read : Layout → PlanType → ℕ → ℕ → List ℕ → List Item
+items_read layout kind bank zero image = []
+items_read layout kind bank (suc n) image = items_read layout kind bank n image ++ item_of (record_of layout kind bank n image) ∷ []
 
 -- the plan of this head in a bank
+abbrev pub plan_read : Layout → PlanType → ℕ → PlanHead → List ℕ → StoredPlan
+plan_read layout kind bank head image = record { id = head.id; items = items_read layout kind bank head.count image }
+
+-- the same in layout 2
+abbrev pub items_in : PlanType → ℕ → ℕ → List ℕ → List Item
+items_in kind bank n image = items_read Two kind bank n image
+
 abbrev pub plan_in : PlanType → ℕ → PlanHead → List ℕ → StoredPlan
-plan_in kind bank head image = record { id = head.id; items = items_in kind bank head.count image }
+plan_in kind bank head image = plan_read Two kind bank head image
 
 abbrev pub plan_by : Ledger → PlanType → List ℕ → StoredPlan
 plan_by ledger kind image = plan_in kind (ledger.entries kind).bank (ledger.entries kind).head image

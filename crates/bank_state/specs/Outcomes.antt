@@ -1,4 +1,5 @@
 -- What each outcome of a call leaves of the banks, and what it shows of the disk.
+use Rattle.dataman_layout.specs.declared.layout.Layout.TheVariants.{Two}
 use Rattle.std.specs.Prelude.{◌≡◌, ◌⊎◌, ◌==◌, ◌&&◌, ◌≤◌, ℕ, false, IsTrue, List, Option, Some, None, Result, Ok, Err, IfOk, IsErrOf, if◌then◌else◌}
 use Rattle.mission_model.specs.declared.plan.PlanType.{PlanType}
 use Rattle.mission_model.specs.declared.plan.Item.{Item}
@@ -56,11 +57,11 @@ item_by kind id seq (Some r) = if is_kind r.kind kind && r.id == id && r.seq == 
 -- one read of 48 bytes was asked, and it gave the record that they are, if they are one
 pub record GivesRecord (kind : PlanType) (bank seq : ℕ) (old new : DiskState) (result : Result (Option Record) DiskFault) : Type 0 where
   pub got : List ℕ
-  pub read : Reads (record_at kind bank seq) 48 old new got (done_or_not result)
+  pub read : Reads (record_at Two kind bank seq) 48 old new got (done_or_not result)
   pub found : IfOk result (λ found. found ≡ item_in got)
 
 -- one read of 48 bytes was asked, and it gave the item where they are the record of that seq of the plan in force
 pub record IsRead (kind : PlanType) (entry : Entry) (seq : ℕ) (old new : DiskState) (result : Result (Option Item) DiskFault) : Type 0 where
   pub got : List ℕ
-  pub read : Reads (record_at kind entry.bank seq) 48 old new got (done_or_not result)
+  pub read : Reads (record_at Two kind entry.bank seq) 48 old new got (done_or_not result)
   pub found : IfOk result (λ found. found ≡ item_by kind entry.head.id seq (item_in got))

@@ -1,4 +1,5 @@
 -- What an image shows of the store, and that it stands for what is held.
+use Rattle.dataman_layout.specs.declared.layout.Layout.TheVariants.{Two}
 use Rattle.std.proofs.Common.{◌≡◌, ◌⊎◌, ◌≤◌, ℕ, Bool, false, IsTrue, List, length, Option, None, unwrap_or, refl, sym, ap, subst, arith}
 use Rattle.mission_model.specs.declared.limits.TheConstants.{STORE_BYTES}
 use Rattle.mission_model.specs.declared.plan.PlanType.{PlanType}
@@ -81,13 +82,16 @@ each_held ledger image P each Safe = each Safe
 -- an image that shows each plan and a mark stands for them
 pub stands : (plans : Plans) (mark : Option PlainMark) (c : List ℕ) → IsThisLayout (held compat_place c) → ((kind : PlanType) → (bank : ℕ) × Shown kind bank (plan_among plans kind) c)
     → ((kind : PlanType) → PlanValid kind (plan_among plans kind).items) → HasMark plans.mission mark (held mark_place c) → StandsFor c plans (unwrap_or mark (first_mark plans.mission.id))
-stands plans mark c layout each valid has = record {
-  layout = layout;
-  each = λ kind. record { bank = (each kind).0; named = (each kind).1.named; items = (each kind).1.items; valid = valid kind };
-  stored = mark;
-  has = has;
-  is = refl;
-}
+stands plans mark c layout each valid has = (
+  Two,
+  record {
+    layout = layout;
+    each = λ kind. record { bank = (each kind).0; named = (each kind).1.named; items = (each kind).1.items; valid = valid kind };
+    stored = mark;
+    has = has;
+    is = refl;
+  },
+)
 
 -- what an image shows of the whole store, by what the banks keep
 pub record Shows (parts : Parts) (seen c : List ℕ) : Type 0 where

@@ -1,4 +1,6 @@
 -- What is known of the store between two calls: what the cells hold, and what stands in the banks.
+use Rattle.dataman_layout.specs.Layouts.{most_pairs}
+use Rattle.dataman_layout.specs.declared.layout.Layout.TheVariants.{Two}
 use Rattle.std.specs.Prelude.{◌≡◌, ◌⊎◌, ℕ, ◌-◌, ◌<◌, ◌≤◌, ◌==◌, ◌&&◌, Bool, true, false, IsTrue, List, Option, Some, None}
 use Rattle.mission_model.specs.declared.limits.TheConstants.{STORE_BYTES}
 use Rattle.mission_model.specs.declared.plan.PlanType.{PlanType}
@@ -65,7 +67,7 @@ pub record PlanInDoubt (kind : PlanType) (banks : PlanBanks) (head : PlanHead) (
 
 -- a mark in doubt stands behind the gate
 abbrev pub HoldsMark : PlainMark → Held → Type 0
-HoldsMark mark (InForce second generation payload) = MarkRecord payload mark
+HoldsMark mark (InForce second generation payload) = MarkRecord (most_pairs Two) payload mark
 HoldsMark mark (Twins generation) = ⊥
 HoldsMark mark Empty = ⊥
 

@@ -1,5 +1,6 @@
 // The store between two calls: a disk, and what is known of it. A plan goes into the spare bank of its type item by item,
 // and one change of the state cell puts it in force.
+ghost use Rattle.dataman_layout.specs.declared.layout.Layout.TheVariants.{Two};
 ghost use Rattle.std.specs.Prelude.{◌≡◌, ◌⊎◌, ◌↔◌, ◌+◌, ◌-◌, ◌≤◌, ◌<◌, ◌^◌, ℕ, List, None, Some, IsTrue, IsSome, IfOk, IfErr, OnOk, OnErr, Err, slice_get};
 ghost use Rattle.mission_model.specs.PlanCode.{PlanValid, limit_of};
 ghost use Rattle.mission_model.specs.declared.plan.PlanType.TheVariants.{Mission};
@@ -180,7 +181,7 @@ impl<D: Disk> Banks<D> {
         requires store { IsStore self.old.parts (D.state self.old.disk) }
 
         ensures parts { self.new.parts ≡ self.old.parts }
-        ensures wrote { Writes (record_at kind (1 - ((ledger_of self.old.parts).entries kind).bank) seq) (item_bytes kind id seq item.now) (D.state self.old.disk) (D.state self.new.disk) result }
+        ensures wrote { Writes (record_at Two kind (1 - ((ledger_of self.old.parts).entries kind).bank) seq) (item_bytes kind id seq item.now) (D.state self.old.disk) (D.state self.new.disk) result }
         ensures written { OnOk result (IsTrue (D.state self.new.disk).tells →
             record_in kind (1 - ((ledger_of self.old.parts).entries kind).bank) seq (D.state self.new.disk).seen ≡ Some (record { kind = kind; id = id; seq = seq; item = item.now })) }
         ensures others { IsTrue (D.state self.new.disk).tells → OtherRecords kind (1 - ((ledger_of self.old.parts).entries kind).bank) seq (D.state self.old.disk) (D.state self.new.disk) }

@@ -1,4 +1,5 @@
 // One record of a bank, read or written.
+ghost use Rattle.dataman_layout.specs.declared.layout.Layout.TheVariants.{Two};
 ghost use Rattle.std.specs.Prelude.{◌≡◌, ◌≤◌, ◌<◌, length, Some};
 ghost use Rattle.mission_model.specs.PlanCode.{limit_of};
 ghost use Rattle.mission_model.specs.declared.limits.TheConstants.{STORE_BYTES};
@@ -8,7 +9,7 @@ ghost use Rattle.dataman_layout.specs.Places.{record_at};
 ghost use Rattle.bank_state.specs.Outcomes.{GivesRecord};
 
 use dataman_layout::places::record_at;
-use dataman_layout::{Record, decode_item, encode_item};
+use dataman_layout::{Layout, Record, decode_item, encode_item};
 use disk_model::{Disk, DiskFault};
 use mission_model::{Item, PlanType};
 
@@ -25,12 +26,12 @@ pub fn put_record<D: Disk>(
     requires seq { seq < limit_of kind }
     requires room { STORE_BYTES ≤ (D.state disk.old).meter.size }
 
-    ensures wrote { Writes (record_at kind bank seq) (item_bytes kind id seq item.now) (D.state disk.old) (D.state disk.new) result }
+    ensures wrote { Writes (record_at Two kind bank seq) (item_bytes kind id seq item.now) (D.state disk.old) (D.state disk.new) result }
     ensures long { length (item_bytes kind id seq item.now) ≡ 48 }
     ensures read { item_in (item_bytes kind id seq item.now) ≡ Some (record { kind = kind; id = id; seq = seq; item = item.now }) }
 {
     disk.write_at(
-        record_at(kind, bank, seq),
+        record_at(Layout::Two, kind, bank, seq),
         &encode_item(kind, id, seq, item),
     )
 }
@@ -46,6 +47,6 @@ pub fn get_record<D: Disk>(
     ensures { GivesRecord kind bank seq (D.state disk.old) (D.state disk.new) result }
 {
     let mut bytes = [0; 48];
-    disk.read_at(record_at(kind, bank, seq), &mut bytes)?;
+    disk.read_at(record_at(Layout::Two, kind, bank, seq), &mut bytes)?;
     Ok(decode_item(&bytes))
 }

@@ -80,8 +80,8 @@ const RECORD: [u8; 48] = [
     0x01, 0x3D, 0x1C, 0x60, 0xA0, 0x18, 0x05, 0x10, 0x27, 0, 0, 0, 0, 0, 0, 0, 0, 0, 0,
 ];
 
-/// The slot of a layout of version 1.
-const COMPAT: [u8; 16] = [0xA5, 1, 0, 0, 0, 0, 0, 0, 0, 1, 0, 0, 0, 0, 0, 0];
+/// The slot of a layout of version 2.
+const COMPAT: [u8; 16] = [0xA5, 1, 0, 0, 0, 0, 0, 0, 0, 2, 0, 0, 0, 0, 0, 0];
 
 /// The slot of an empty plan of id 0 in bank 0.
 const EMPTY: [u8; 16] = [0xA5, 1, 0, 0, 0, 0, 0, 0, 0, 0, 0, 0, 0, 0, 0, 0];
@@ -99,23 +99,23 @@ fn make_store<D: Disk>(disk: &mut D) -> Result<(), DiskFault>
     ensures tells { (D.state disk.new).tells ≡ (D.state disk.old).tells }
 {
     disk.write_at(0, &COMPAT)?;
-    disk.write_at(32, &EMPTY)?;
-    disk.write_at(64, &EMPTY)?;
-    disk.write_at(96, &EMPTY)?;
+    disk.write_at(65_536, &EMPTY)?;
+    disk.write_at(65_568, &EMPTY)?;
+    disk.write_at(65_600, &EMPTY)?;
     disk.sync()
 }
 
 /// Opens a cell, whatever it holds.
 fn open_cell<D: Disk>(disk: &mut D, at: u64, slot_bytes: u16) -> Result<GatedCell, CellFault>
     requires room { at + 2 * slot_bytes ≤ (D.state disk.old).meter.size }
-    requires slot { (9 ≤ slot_bytes) × (slot_bytes ≤ 80) }
+    requires slot { (9 ≤ slot_bytes) × (slot_bytes ≤ 144) }
     requires untold { (D.state disk.old).tells ≡ false }
     ensures place { IfOk result (λ cell. cell.place ≡ record { at = at; slot_bytes = slot_bytes }) }
     ensures calm { IfOk result (λ cell. cell.doubt ≡ false) }
     ensures size { (D.state disk.new).meter.size ≡ (D.state disk.old).meter.size }
     ensures tells { (D.state disk.new).tells ≡ (D.state disk.old).tells }
 {
-    let mut payload = [0; 71];
+    let mut payload = [0; 135];
     let n = usize::from(slot_bytes) - 9;
     GatedCell::open(disk, CellPlace { at, slot_bytes }, &mut payload[..n])
 }
@@ -131,10 +131,10 @@ fn new_banks<D: Disk>(disk: D) -> Result<Banks<D>, CellFault>
 {
     let mut disk = disk;
     make_store(&mut disk)?;
-    let mission = open_cell(&mut disk, 32, 16)?;
-    let fence = open_cell(&mut disk, 64, 16)?;
-    let safe = open_cell(&mut disk, 96, 16)?;
-    let mark = open_cell(&mut disk, 128, 80)?;
+    let mission = open_cell(&mut disk, 65_536, 16)?;
+    let fence = open_cell(&mut disk, 65_568, 16)?;
+    let safe = open_cell(&mut disk, 65_600, 16)?;
+    let mark = open_cell(&mut disk, 65_632, 144)?;
     let head = PlanHead { id: 0, count: 0 };
     Ok(Banks::from_parts(disk, [mission, fence, safe, mark], [0; 3], [head; 3], None))
 }
@@ -259,10 +259,10 @@ fn an_upload_writes_the_bytes_of_the_format(rt: HostRuntime) -> Result<(), Fail>
     let mut disk = banks.into_disk();
     let mut slots = [0; 32];
     let mut record = [0; 48];
-    assert_eq!(rt; disk.read_at(32, &mut slots), Ok(()));
+    assert_eq!(rt; disk.read_at(65_536, &mut slots), Ok(()));
     assert_eq!(rt; slots[..16], EMPTY[..]);
     assert_eq!(rt; slots[16..], COMMITTED[..]);
-    assert_eq!(rt; disk.read_at(24_512, &mut record), Ok(()));
+    assert_eq!(rt; disk.read_at(162_048, &mut record), Ok(()));
     assert_eq!(rt; record, RECORD);
     Ok(())
 }
@@ -325,9 +325,9 @@ fn a_record_of_another_item_is_none(rt: HostRuntime) -> Result<(), Fail> {
     let alloc = rt.alloc();
     let mut disk = quiet_disk(alloc, Vec::new(alloc))?;
     // In places 1 to 3 of the spare bank: another seq, another type, another plan's id. Place 4 has zeros.
-    assert_eq!(rt; disk.write_at(24_560, &record_of(1, 0, 0)), Ok(()));
-    assert_eq!(rt; disk.write_at(24_608, &record_of(1, 2, 1)), Ok(()));
-    assert_eq!(rt; disk.write_at(24_656, &record_of(2, 3, 0)), Ok(()));
+    assert_eq!(rt; disk.write_at(162_096, &record_of(1, 0, 0)), Ok(()));
+    assert_eq!(rt; disk.write_at(162_144, &record_of(1, 2, 1)), Ok(()));
+    assert_eq!(rt; disk.write_at(162_192, &record_of(2, 3, 0)), Ok(()));
     let mut banks = new_banks(disk)?;
     let wanted = [Some(ITEM), None, None, None, None];
     assert_eq!(rt; commit_unwritten(&mut banks), Ok(wanted));

@@ -1,13 +1,8 @@
 -- Bytes and versions correspond one to one.
-use Rattle.std.proofs.Common.{◌≡◌, ℕ, ◌^◌, ◌<◌, List, drop, length, length-drop, refl, arith}
-use Rattle.dataman_layout.specs.declared.compat.TheConstants.{LAYOUT_VERSION}
+use Rattle.std.proofs.Common.{◌≡◌, ℕ, ◌^◌, ◌<◌, List, drop, length-drop, refl, arith}
 use Rattle.dataman_layout.specs.Fields.{number_bytes, IsBytes}
 use Rattle.dataman_layout.specs.FieldLaws.{drop-field, number_at-number_bytes, zeros_are}
 use Rattle.dataman_layout.specs.Compat.{compat_bytes, CompatRecord}
-
--- the version of this layout
-pub layout_version_is : LAYOUT_VERSION ≡ 1
-layout_version_is = refl
 
 -- the bytes of a version are the version's
 pub record-compat_bytes : (version : ℕ) → version < 2 ^ 32 → CompatRecord (compat_bytes version) version

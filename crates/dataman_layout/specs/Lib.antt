@@ -1,3 +1,4 @@
+pub mod Layouts
 pub mod Fields
 pub mod FieldLaws
 pub mod Item

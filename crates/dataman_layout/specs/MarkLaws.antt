@@ -9,20 +9,21 @@ use Rattle.dataman_layout.specs.FieldLaws.{both, some_test, zeros_are, is_zeros-
 use Rattle.dataman_layout.specs.Mark.{PlainMark, pair_bytes, mark_bytes, pair_at, pairs_in, MarkRecord, mark_in}
 
 -- what the fields hold fits their types
-pub record FitsMark (mark : PlainMark) : Type 0 where
+pub record FitsMark (most : ℕ) (mark : PlainMark) : Type 0 where
   pub id : mark.id < 2 ^ 32
   pub index : mark.index < 2 ^ 16
-  pub few : length mark.pairs ≤ 16
+  pub byte : most < 256
+  pub few : length mark.pairs ≤ most
   pub rise : rises_from 0 mark.pairs ≡ true
   pub fit : (k : ℕ) → ((get_or mark.pairs k (0, 0)).0 < 2 ^ 16) × ((get_or mark.pairs k (0, 0)).1 < 2 ^ 16)
 
 -- a mark of its parts that bytes are read as
-pub mark_in-record : (bytes : List ℕ) (mark : PlainMark) → MarkRecord bytes mark → mark_in bytes ≡ Some mark
+pub mark_in-record : (most : ℕ) (bytes : List ℕ) (mark : PlainMark) → MarkRecord most bytes mark → mark_in most bytes ≡ Some mark
 unfolding mark_in
-mark_in-record bytes mark is =
+mark_in-record most bytes mark is =
     let n = is.number in
     let pairs : pairs_in bytes (number_at 6 1 bytes) ≡ mark.pairs = ap (pairs_in bytes) n ∙ is.pairs in
-    let few : nat_le (number_at 6 1 bytes) 16 ≡ true = grind (arith, nat_tests, is.few, n) in
+    let few : nat_le (number_at 6 1 bytes) most ≡ true = grind (arith, nat_tests, is.few, n) in
     let rise : rises_from 0 (pairs_in bytes (number_at 6 1 bytes)) ≡ true = ap (rises_from 0) pairs ∙ is.rise in
     let rest : is_zeros (drop (7 + 4 * number_at 6 1 bytes) bytes) ≡ true = ap (λ (m : ℕ). is_zeros (drop (7 + 4 * m) bytes)) n ∙ is.rest in
     λ i. cond (few i && (rise i && rest i)) (Some (record { id = is.id i; index = is.index i; pairs = pairs i })) None
@@ -33,17 +34,17 @@ length-pairs_in bytes zero = refl
 length-pairs_in bytes (suc n) = omega (arith, length_push (pairs_in bytes n) (pair_at bytes n), length-pairs_in bytes n)
 
 -- what bytes are read as is their mark
-pub record-mark_in : (bytes : List ℕ) (mark : PlainMark) → length bytes ≡ 71 → mark_in bytes ≡ Some mark → MarkRecord bytes mark
+pub record-mark_in : (most : ℕ) (bytes : List ℕ) (mark : PlainMark) → length bytes ≡ 7 + 4 * most → mark_in most bytes ≡ Some mark → MarkRecord most bytes mark
 unfolding mark_in
-record-mark_in bytes mark size e =
+record-mark_in most bytes mark size e =
     let n = number_at 6 1 bytes in
-    let test = some_test (nat_le n 16 && (rises_from 0 (pairs_in bytes n) && is_zeros (drop (7 + 4 * n) bytes))) _ mark e in
-    let first = both (nat_le n 16) (rises_from 0 (pairs_in bytes n) && is_zeros (drop (7 + 4 * n) bytes)) test.0 in
+    let test = some_test (nat_le n most && (rises_from 0 (pairs_in bytes n) && is_zeros (drop (7 + 4 * n) bytes))) _ mark e in
+    let first = both (nat_le n most) (rises_from 0 (pairs_in bytes n) && is_zeros (drop (7 + 4 * n) bytes)) test.0 in
     let second = both (rises_from 0 (pairs_in bytes n)) (is_zeros (drop (7 + 4 * n) bytes)) first.1 in
     let same = ap (λ (o : Option PlainMark). unwrap_or o mark) test.1 in
     let pairs : pairs_in bytes n ≡ mark.pairs = ap (λ (m : PlainMark). m.pairs) same in
     let number : n ≡ length mark.pairs = sym (length-pairs_in bytes n) ∙ ap length pairs in
-    let low : n ≤ 16 = grind (arith, nat_tests, first.0) in
+    let low : n ≤ most = grind (arith, nat_tests, first.0) in
     record {
       size = size;
       id = ap (λ (m : PlainMark). m.id) same;
@@ -56,10 +57,10 @@ record-mark_in bytes mark size e =
     }
 
 -- bytes are one mark's at most
-pub one_mark : (bytes : List ℕ) (mark other : PlainMark) → MarkRecord bytes mark → MarkRecord bytes other → mark ≡ other
-one_mark bytes mark other first second =
-    let a = mark_in-record bytes mark first in
-    let b = mark_in-record bytes other second in
+pub one_mark : (most : ℕ) (bytes : List ℕ) (mark other : PlainMark) → MarkRecord most bytes mark → MarkRecord most bytes other → mark ≡ other
+one_mark most bytes mark other first second =
+    let a = mark_in-record most bytes mark first in
+    let b = mark_in-record most bytes other second in
     ap (λ (o : Option PlainMark). unwrap_or o mark) (sym a ∙ b)
 
 -- one pair more
@@ -85,14 +86,14 @@ drop-pairs bytes (suc n) m low room e =
     ∙ ap (λ (l : List ℕ). l ++ drop m bytes) (flat_map_pair (pairs_in bytes n) (pair_at bytes n))
 
 -- bytes that are a mark's are its bytes
-pub mark_bytes-record : (bytes : List ℕ) (mark : PlainMark) → IsBytes bytes → MarkRecord bytes mark → bytes ≡ mark_bytes mark
+pub mark_bytes-record : (most : ℕ) (bytes : List ℕ) (mark : PlainMark) → IsBytes bytes → MarkRecord most bytes mark → bytes ≡ mark_bytes most mark
 unfolding mark_bytes number_bytes
-mark_bytes-record bytes mark low is =
+mark_bytes-record most bytes mark low is =
     let size = is.size in
     let few = is.few in
     let n = length mark.pairs in
-    let tail : drop (7 + 4 * n) bytes ≡ replicate (64 - 4 * n) 0 = zeros_are (drop (7 + 4 * n) bytes) (64 - 4 * n) (omega (arith, length-drop (7 + 4 * n) bytes)) is.rest in
-    let from_pairs : drop 7 bytes ≡ flat_map pair_bytes mark.pairs ++ replicate (64 - 4 * n) 0 =
+    let tail : drop (7 + 4 * n) bytes ≡ replicate (4 * most - 4 * n) 0 = zeros_are (drop (7 + 4 * n) bytes) (4 * most - 4 * n) (omega (arith, length-drop (7 + 4 * n) bytes)) is.rest in
+    let from_pairs : drop 7 bytes ≡ flat_map pair_bytes mark.pairs ++ replicate (4 * most - 4 * n) 0 =
     drop-pairs bytes n (7 + 4 * n) low (omega arith) refl ∙ (λ i. flat_map pair_bytes (is.pairs i) ++ tail i) in
     let from_number = drop-field 6 1 7 n bytes _ low refl (omega arith) is.number from_pairs in
     let from_index = drop-field 4 2 6 mark.index bytes _ low refl (omega arith) is.index from_number in
@@ -138,27 +139,28 @@ pairs_are bytes pairs (suc n) rest e within fit =
     (λ i. before i ++ pair i ∷ []) ∙ sym (take_more pairs n (0, 0) (omega arith)) ∙ ap (λ (k : ℕ). take k pairs) sum
 
 -- the bytes of a mark are the mark's
-pub record-mark_bytes : (mark : PlainMark) → FitsMark mark → MarkRecord (mark_bytes mark) mark
+pub record-mark_bytes : (most : ℕ) (mark : PlainMark) → FitsMark most mark → MarkRecord most (mark_bytes most mark) mark
 unfolding mark_bytes number_bytes
-record-mark_bytes mark fits =
-    let bytes = mark_bytes mark in
+record-mark_bytes most mark fits =
+    let bytes = mark_bytes most mark in
     let n = length mark.pairs in
     let few = fits.few in
+    let byte = fits.byte in
     let size_pairs = length-pairs mark.pairs in
     let pairs = flat_map pair_bytes mark.pairs in
-    let zeros = replicate (64 - 4 * n) 0 in
+    let zeros : List ℕ = replicate (4 * most - 4 * n) 0 in
     let from_pairs : drop 7 bytes ≡ pairs ++ zeros = refl in
     record {
-      size = omega (arith, length-append pairs zeros, length-replicate {A = ℕ} (64 - 4 * n) 0, size_pairs);
+      size = omega (arith, length-append pairs zeros, length-replicate {A = ℕ} (4 * most - 4 * n) 0, size_pairs);
       id = number_at-number_bytes 0 4 mark.id bytes (omega (arith, fits.id)) refl;
       index = number_at-number_bytes 4 2 mark.index bytes (omega (arith, fits.index)) refl;
       number = number_at-number_bytes 6 1 n bytes (omega arith) refl;
       few = few;
       pairs = pairs_are bytes mark.pairs n zeros from_pairs (omega arith) fits.fit ∙ take_all n mark.pairs (omega arith);
       rise = fits.rise;
-      rest = ap is_zeros (sym (drop-drop (4 * n) 7 bytes) ∙ ap (drop (4 * n)) from_pairs ∙ drop_at pairs zeros (4 * n) size_pairs) ∙ is_zeros-zeros (64 - 4 * n);
+      rest = ap is_zeros (sym (drop-drop (4 * n) 7 bytes) ∙ ap (drop (4 * n)) from_pairs ∙ drop_at pairs zeros (4 * n) size_pairs) ∙ is_zeros-zeros (4 * most - 4 * n);
     }
 
 -- the bytes of a mark are read as it
-pub mark_in-mark_bytes : (mark : PlainMark) → FitsMark mark → mark_in (mark_bytes mark) ≡ Some mark
-mark_in-mark_bytes mark fits = mark_in-record (mark_bytes mark) mark (record-mark_bytes mark fits)
+pub mark_in-mark_bytes : (most : ℕ) (mark : PlainMark) → FitsMark most mark → mark_in most (mark_bytes most mark) ≡ Some mark
+mark_in-mark_bytes most mark fits = mark_in-record most (mark_bytes most mark) mark (record-mark_bytes most mark fits)

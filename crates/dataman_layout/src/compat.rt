@@ -1,6 +1,6 @@
 //! The record of the layout's version, 7 bytes.
 
-ghost use Rattle.std.specs.Prelude.{◌≡◌, ◌↔◌, ℕ, IsTrue, IfSome, IfNone};
+ghost use Rattle.std.specs.Prelude.{◌≡◌, ℕ, IfSome, IfNone};
 ghost use Rattle.dataman_layout.specs.Fields.{number_at};
 ghost use Rattle.dataman_layout.specs.Compat.{CompatRecord, compat_bytes};
 
@@ -11,9 +11,6 @@ use crate::fields::{is_zeros_from, put_u32, u32_at};
 const VERSION: usize = 0;
 
 const REST: usize = 4;
-
-/// The version of this layout.
-pub const LAYOUT_VERSION: u32 = 1;
 
 /// The bytes of a version.
 pub fn encode_compat(version: u32) -> [u8; 7]
@@ -43,11 +40,4 @@ pub fn decode_compat(bytes: &[u8; 7]) -> Option<u32>
     } else {
         None
     }
-}
-
-/// Whether this is the version of this layout.
-pub fn is_this_layout(version: u32) -> bool
-    ensures { IsTrue result ↔ (version ≡ 1) }
-{
-    version == LAYOUT_VERSION
 }

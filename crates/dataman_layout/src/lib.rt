@@ -5,14 +5,16 @@
 mod compat;
 mod fields;
 mod item;
+mod layout;
 mod mark;
 pub mod places;
 mod state;
 
-pub use compat::{LAYOUT_VERSION, decode_compat, encode_compat, is_this_layout, version_in};
+pub use compat::{decode_compat, encode_compat, version_in};
 pub use item::{Record, decode_item, encode_item};
-pub use mark::{decode_mark, encode_mark};
-pub use state::{decode_state, encode_state};
+pub use layout::{Layout, layout_of, limit_in, version_of};
+pub use mark::{decode_mark, decode_mark_one, encode_mark};
+pub use state::{decode_state, decode_state_one, encode_state};
 
 #[cfg(test)]
 mod tests;

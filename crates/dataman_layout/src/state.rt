@@ -1,11 +1,13 @@
 //! The record of a plan's state, 7 bytes.
 
 ghost use Rattle.std.specs.Prelude.{◌≡◌, ◌≤◌, ◌<◌, ℕ, Some, IfSome, IfNone};
-ghost use Rattle.mission_model.specs.PlanCode.{limit_of};
+ghost use Rattle.dataman_layout.specs.declared.layout.Layout.TheVariants.{One, Two};
+ghost use Rattle.dataman_layout.specs.Layouts.{limit_in};
 ghost use Rattle.dataman_layout.specs.State.{StateRecord, state_bytes, state_in};
 
 use crate::fields::{put_u8, put_u16, put_u32, u8_at, u16_at, u32_at};
-use mission_model::{PlanHead, PlanType, limit_of};
+use crate::layout::{Layout, limit_in};
+use mission_model::{PlanHead, PlanType};
 
 // Where the fields of a state begin.
 
@@ -22,7 +24,7 @@ const BANKS: u8 = 2;
 pub fn encode_state(bank: u8, head: PlanHead) -> [u8; 7]
     requires { bank < 2 }
     ensures bytes { result ≡ state_bytes bank head }
-    ensures read { (kind : PlanType) → head.count ≤ limit_of kind → state_in kind result ≡ Some (bank, head) }
+    ensures read { (limit : ℕ) → head.count ≤ limit → state_in limit result ≡ Some (bank, head) }
 {
     let mut bytes = [0; 7];
     put_u8(&mut bytes, BANK, bank);
@@ -31,25 +33,45 @@ pub fn encode_state(bank: u8, head: PlanHead) -> [u8; 7]
     bytes
 }
 
-/// The bank and the head that these bytes are, if they are a state's of a plan of this type.
+/// The bank and the head that these bytes are, if they are a state's of a plan of this type, in layout 2.
 pub fn decode_state(kind: PlanType, bytes: &[u8; 7]) -> Option<(u8, PlanHead)>
-    ensures read { result ≡ state_in kind bytes.now }
-    ensures found { IfSome result (λ s. StateRecord kind bytes.now s.0 s.1) }
+    ensures read { result ≡ state_in (limit_in Two kind) bytes.now }
+    ensures found { IfSome result (λ s. StateRecord (limit_in Two kind) bytes.now s.0 s.1) }
     ensures bytes { IfSome result (λ s. bytes.now ≡ state_bytes s.0 s.1) }
-    ensures none { IfNone result ((bank : ℕ) (head : PlanHead) → StateRecord kind bytes.now bank head → ⊥) }
+    ensures none { IfNone result ((bank : ℕ) (head : PlanHead) → StateRecord (limit_in Two kind) bytes.now bank head → ⊥) }
 {
-    state_of(kind, bytes)
+    state_of(limit_in(Layout::Two, kind), bytes)
 }
 
-/// The state by its fields.
+/// The same in layout 1.
+pub fn decode_state_one(kind: PlanType, bytes: &[u8; 7]) -> Option<(u8, PlanHead)>
+    ensures read { result ≡ state_in (limit_in One kind) bytes.now }
+    ensures found { IfSome result (λ s. StateRecord (limit_in One kind) bytes.now s.0 s.1) }
+    ensures bytes { IfSome result (λ s. bytes.now ≡ state_bytes s.0 s.1) }
+    ensures none { IfNone result ((bank : ℕ) (head : PlanHead) → StateRecord (limit_in One kind) bytes.now bank head → ⊥) }
+{
+    state_of(limit_in(Layout::One, kind), bytes)
+}
+
+/// The state by its fields, of a plan of so many items at most.
+fn state_of(limit: u16, bytes: &[u8; 7]) -> Option<(u8, PlanHead)>
+    ensures read { result ≡ state_in limit bytes.now }
+    ensures found { IfSome result (λ s. StateRecord limit bytes.now s.0 s.1) }
+    ensures bytes { IfSome result (λ s. bytes.now ≡ state_bytes s.0 s.1) }
+    ensures none { IfNone result ((bank : ℕ) (head : PlanHead) → StateRecord limit bytes.now bank head → ⊥) }
+{
+    fields_of(limit, bytes)
+}
+
+/// The same, read field by field.
 #[tactic(auto, unfolding(crate::specs::State::state_in))]
-fn state_of(kind: PlanType, bytes: &[u8; 7]) -> Option<(u8, PlanHead)>
-    ensures { result ≡ state_in kind bytes.now }
+fn fields_of(limit: u16, bytes: &[u8; 7]) -> Option<(u8, PlanHead)>
+    ensures { result ≡ state_in limit bytes.now }
 {
     let bank = u8_at(bytes, BANK);
     let id = u32_at(bytes, ID);
     let count = u16_at(bytes, COUNT);
-    if bank < BANKS && count <= limit_of(kind) {
+    if bank < BANKS && count <= limit {
         Some((bank, PlanHead { id, count }))
     } else {
         None

@@ -77,8 +77,8 @@ const ITEM: Item = Item {
     auto: true,
 };
 
-/// The first slots of a new store: a layout of version 1, and an empty plan of id 0 in bank 0.
-const COMPAT: [u8; 16] = [0xA5, 1, 0, 0, 0, 0, 0, 0, 0, 1, 0, 0, 0, 0, 0, 0];
+/// The first slots of a new store: a layout of version 2, and an empty plan of id 0 in bank 0.
+const COMPAT: [u8; 16] = [0xA5, 1, 0, 0, 0, 0, 0, 0, 0, 2, 0, 0, 0, 0, 0, 0];
 
 const EMPTY: [u8; 16] = [0xA5, 1, 0, 0, 0, 0, 0, 0, 0, 0, 0, 0, 0, 0, 0, 0];
 
@@ -107,23 +107,23 @@ fn make_store<D: Disk>(disk: &mut D, mission: &[u8; 16]) -> Result<(), DiskFault
     ensures tells { (D.state disk.new).tells ≡ (D.state disk.old).tells }
 {
     disk.write_at(0, &COMPAT)?;
-    disk.write_at(32, mission)?;
-    disk.write_at(64, &EMPTY)?;
-    disk.write_at(96, &EMPTY)?;
+    disk.write_at(65_536, mission)?;
+    disk.write_at(65_568, &EMPTY)?;
+    disk.write_at(65_600, &EMPTY)?;
     disk.sync()
 }
 
 /// Opens a cell, whatever it holds.
 fn open_cell<D: Disk>(disk: &mut D, at: u64, slot_bytes: u16) -> Result<GatedCell, CellFault>
     requires room { at + 2 * slot_bytes ≤ (D.state disk.old).meter.size }
-    requires slot { (9 ≤ slot_bytes) × (slot_bytes ≤ 80) }
+    requires slot { (9 ≤ slot_bytes) × (slot_bytes ≤ 144) }
     requires untold { (D.state disk.old).tells ≡ false }
     ensures place { IfOk result (λ cell. cell.place ≡ record { at = at; slot_bytes = slot_bytes }) }
     ensures calm { IfOk result (λ cell. cell.doubt ≡ false) }
     ensures size { (D.state disk.new).meter.size ≡ (D.state disk.old).meter.size }
     ensures tells { (D.state disk.new).tells ≡ (D.state disk.old).tells }
 {
-    let mut payload = [0; 71];
+    let mut payload = [0; 135];
     let n = usize::from(slot_bytes) - 9;
     GatedCell::open(disk, CellPlace { at, slot_bytes }, &mut payload[..n])
 }
@@ -139,10 +139,10 @@ fn new_banks<D: Disk>(disk: D, mission: &[u8; 16], head: PlanHead) -> Result<Ban
 {
     let mut disk = disk;
     make_store(&mut disk, mission)?;
-    let mission = open_cell(&mut disk, 32, 16)?;
-    let fence = open_cell(&mut disk, 64, 16)?;
-    let safe = open_cell(&mut disk, 96, 16)?;
-    let mark = open_cell(&mut disk, 128, 80)?;
+    let mission = open_cell(&mut disk, 65_536, 16)?;
+    let fence = open_cell(&mut disk, 65_568, 16)?;
+    let safe = open_cell(&mut disk, 65_600, 16)?;
+    let mark = open_cell(&mut disk, 65_632, 144)?;
     Ok(Banks::from_parts(
         disk,
         [mission, fence, safe, mark],

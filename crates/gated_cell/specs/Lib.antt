@@ -2,3 +2,4 @@ pub mod Cell
 pub mod Slots
 pub mod Refusals
 pub mod Beside
+pub mod Opens

@@ -10,7 +10,7 @@ ghost use Rattle.gated_cell.specs.Cell.{spare_at, spare_of, held, Known, Settled
 ghost use Rattle.gated_cell.specs.Refusals.{Refused, NotOpened, NotClosed, Asks};
 
 use crate::fault::is_failed;
-use crate::reading::open_through;
+use crate::reading::{open_long, open_short};
 use crate::slot::{CLOSED, LONGEST_SLOT, OPEN, SHORT_SLOT, fill};
 use crate::{CellFault, CellPlace};
 use disk_model::{Disk, DiskFault};
@@ -58,15 +58,10 @@ impl GatedCell {
         ensures asked { Asks 0 2 (D.state disk.old).meter (D.state disk.new).meter result }
         ensures refused { IfErr result (NotOpened place (D.state disk.old) (D.state disk.new)) }
     {
-        let n = place.slot_bytes as usize;
-        if n <= SHORT_SLOT {
-            let mut first = [0; SHORT_SLOT];
-            let mut second = [0; SHORT_SLOT];
-            open_through(disk, place, payload, &mut first[..n], &mut second[..n])
+        if place.slot_bytes as usize <= SHORT_SLOT {
+            open_short(disk, place, payload)
         } else {
-            let mut first = [0; LONGEST_SLOT];
-            let mut second = [0; LONGEST_SLOT];
-            open_through(disk, place, payload, &mut first[..n], &mut second[..n])
+            open_long(disk, place, payload)
         }
     }
 
@@ -164,8 +159,22 @@ impl GatedCell {
         if self.place.slot_bytes as usize <= SHORT_SLOT {
             self.put_through(disk, payload, &mut [0; SHORT_SLOT])
         } else {
-            self.put_through(disk, payload, &mut [0; LONGEST_SLOT])
+            self.put_long(disk, payload)
         }
+    }
+
+    /// Writes them by a buffer of the longest slot, which stands only here.
+    fn put_long<D: Disk>(&self, disk: &mut D, payload: &[u8]) -> Result<(), DiskFault>
+        requires room { self.now.place.at + 2 * self.now.place.slot_bytes ≤ (D.state disk.old).meter.size }
+        requires size { (D.state disk.old).meter.size < 2 ^ 64 }
+        requires slot { 9 ≤ self.now.place.slot_bytes }
+        requires length { length payload.now ≡ self.now.place.slot_bytes - 9 }
+        requires below { self.now.generation + 1 < 2 ^ 64 }
+        ensures { Writes (spare_at self.now + 1) (to_le_bytes w64 (self.now.generation + 1) ++ payload.now) (D.state disk.old) (D.state disk.new) result }
+    {
+        let n = self.place.slot_bytes as usize;
+        let mut bytes = [0; LONGEST_SLOT];
+        self.put_through(disk, payload, &mut bytes[..n])
     }
 
     /// Writes them by this buffer, which is as long as a slot at least.

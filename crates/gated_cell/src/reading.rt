@@ -5,8 +5,9 @@ ghost use Rattle.disk_model.specs.Every.{Steady};
 ghost use Rattle.disk_model.specs.Meters.{Uncut};
 ghost use Rattle.gated_cell.specs.Cell.{held, Known, Settled, in_force, chosen, given, payload_of};
 ghost use Rattle.gated_cell.specs.Refusals.{NotOpened, Asks};
+ghost use Rattle.gated_cell.specs.Opens.{Opens};
 
-use crate::slot::{HEAD_BYTES, generation_in, is_open};
+use crate::slot::{HEAD_BYTES, LONGEST_SLOT, SHORT_SLOT, generation_in, is_open};
 use crate::{CellFault, CellPlace, GatedCell};
 use disk_model::Disk;
 
@@ -57,7 +58,7 @@ fn give(in_force: Option<bool>, first: &[u8], second: &[u8], payload: &mut [u8])
 }
 
 /// Reads the two slots into two buffers of their length.
-pub fn open_through<D: Disk>(
+fn open_through<D: Disk>(
     disk: &mut D,
     place: CellPlace,
     payload: &mut [u8],
@@ -97,4 +98,44 @@ pub fn open_through<D: Disk>(
     let cell = choose(place, a, b);
     give(cell.in_force, first, second, payload);
     Ok(cell)
+}
+
+/// Opens a cell of short slots.
+pub fn open_short<D: Disk>(
+    disk: &mut D,
+    place: CellPlace,
+    payload: &mut [u8],
+) -> Result<GatedCell, CellFault>
+    requires room { place.at + 2 * place.slot_bytes ≤ (D.state disk.old).meter.size }
+    requires size { (D.state disk.old).meter.size < 2 ^ 64 }
+    requires slot { 9 ≤ place.slot_bytes }
+    requires fits { place.slot_bytes ≤ 144 }
+    requires length { length payload.old ≡ place.slot_bytes - 9 }
+    requires settled { Settled place (D.state disk.old) }
+    ensures { Opens place (D.state disk.old) (D.state disk.new) payload.old payload.new result }
+{
+    let n = place.slot_bytes as usize;
+    let mut first = [0; SHORT_SLOT];
+    let mut second = [0; SHORT_SLOT];
+    open_through(disk, place, payload, &mut first[..n], &mut second[..n])
+}
+
+/// Opens a cell of slots of any length. Only here stand two buffers of the longest one.
+pub fn open_long<D: Disk>(
+    disk: &mut D,
+    place: CellPlace,
+    payload: &mut [u8],
+) -> Result<GatedCell, CellFault>
+    requires room { place.at + 2 * place.slot_bytes ≤ (D.state disk.old).meter.size }
+    requires size { (D.state disk.old).meter.size < 2 ^ 64 }
+    requires slot { 9 ≤ place.slot_bytes }
+    requires fits { place.slot_bytes < 2 ^ 16 }
+    requires length { length payload.old ≡ place.slot_bytes - 9 }
+    requires settled { Settled place (D.state disk.old) }
+    ensures { Opens place (D.state disk.old) (D.state disk.new) payload.old payload.new result }
+{
+    let n = place.slot_bytes as usize;
+    let mut first = [0; LONGEST_SLOT];
+    let mut second = [0; LONGEST_SLOT];
+    open_through(disk, place, payload, &mut first[..n], &mut second[..n])
 }

@@ -1,5 +1,7 @@
 -- An image without a fault, part by part: what each cell and each bank then holds.
-use Rattle.std.specs.Prelude.{◌≡◌, ◌⊎◌, ◌+◌, ◌-◌, ◌<◌, ◌≤◌, ◌&&◌, ◌||◌, ◌==◌, ℕ, zero, suc, Bool, true, false, List, [], ◌∷◌, ◌++◌, drop, length, take, slice_get, nat_le, nat_lt, Option, Some, None, unwrap_or, cond}
+use Rattle.dataman_layout.specs.Layouts.{limit_in, most_pairs}
+use Rattle.dataman_layout.specs.declared.layout.Layout.{Layout}
+use Rattle.std.specs.Prelude.{◌≡◌, ◌⊎◌, ◌+◌, ◌-◌, ◌*◌, ◌<◌, ◌≤◌, ◌&&◌, ◌||◌, ◌==◌, ℕ, zero, suc, Bool, true, false, List, [], ◌∷◌, ◌++◌, drop, length, take, slice_get, nat_le, nat_lt, Option, Some, None, unwrap_or, cond}
 use Rattle.std.specs.List.{list_all}
 use Rattle.std.proofs.Common.{refl, sym, ap, subst, inl, inr, ⊎_elim, arith, ◌∙◌}
 use Rattle.std.proofs.lemmas.Bool.{cases_eq, eqb-true}
@@ -20,16 +22,17 @@ use Rattle.gated_cell.specs.declared.place.CellPlace.{CellPlace}
 use Rattle.gated_cell.specs.Cell.{Held, Empty, Twins, InForce, held, choose, slot_at, payload_at, is_open, generation_at}
 use Rattle.dataman_layout.specs.declared.item.Record.{Record}
 use Rattle.dataman_layout.specs.Fields.{number_at, is_zeros}
+use Rattle.dataman_layout.specs.declared.layout.Layout.TheVariants.{One, Two}
 use Rattle.dataman_layout.specs.StateLaws.{state_in-record, record-state_in}
 use Rattle.dataman_layout.specs.Mark.{MarkRecord, mark_in}
 use Rattle.dataman_layout.specs.MarkLaws.{mark_in-record, record-mark_in}
 use Rattle.plan_store.specs.StoreState.{StoredPlan}
 use Rattle.plan_store.specs.CanServe.{MarkFits, IsJumpUsed}
 use Rattle.bank_state.specs.Plans.{head_of}
-use Rattle.bank_state.specs.StandsFor.{IsThisLayout, Names, record_in, HasItems, IsMarkOf, HasMark}
-use Rattle.bank_state.specs.Ledger.{item_of, items_in, plan_in}
+use Rattle.bank_state.specs.StandsFor.{IsThisLayout, NamesIn, record_of, HasItemsIn, IsMarkOf, HasMarkIn}
+use Rattle.bank_state.specs.Ledger.{item_of, items_read, plan_read}
 use Rattle.bank_state.specs.Outcomes.{item_by}
-use Rattle.bank_state.specs.Frames.{length-items_in, is_kind_same}
+use Rattle.bank_state.specs.Frames.{length-items_read, is_kind_same}
 use Rattle.recovery.specs.declared.fault.BootFault.{BootFault}
 use Rattle.recovery.specs.declared.fault.BootFault.TheVariants.{BadCell, UnknownVersion}
 use Rattle.recovery.specs.Faults.{or_else, compat_number, compat_fault, named_by, missing, refused, item_fault, items_fault, allows, jump_in, counts_jump, fits, unfit, mark_number, mark_fault}
@@ -77,9 +80,9 @@ pub layout_of : (byte : ℕ) (h : Held) → HasSize 7 h → compat_fault byte h 
 layout_of byte Empty size none = absurd cc
 layout_of byte (Twins g) size none = absurd cc
 layout_of byte (InForce s g payload) size none =
-    let version = passes (number_at 0 4 payload == 1) (cond (is_zeros (drop 4 payload)) None (Some (BadCell compat_number))) (UnknownVersion (number_at 0 4 payload)) none in
+    let version = passes (number_at 0 4 payload == 2) (cond (is_zeros (drop 4 payload)) None (Some (BadCell compat_number))) (UnknownVersion (number_at 0 4 payload)) none in
     let rest = passes (is_zeros (drop 4 payload)) None (BadCell compat_number) version.1 in
-    record { size = size; version = eqb-true (number_at 0 4 payload) 1 version.0; rest = rest.0 }
+    record { size = size; version = eqb-true (number_at 0 4 payload) 2 version.0; rest = rest.0 }
 
 same_number : (n : ℕ) → (n == n) ≡ true
 same_number n = grind (arith, nat_tests)
@@ -89,34 +92,34 @@ pub layout_free : (byte : ℕ) (h : Held) → IsThisLayout h → compat_fault by
 layout_free byte Empty is = absurd is
 layout_free byte (Twins g) is = absurd is
 layout_free byte (InForce s g payload) is =
-    let version : (number_at 0 4 payload == 1) ≡ true = ap (λ (n : ℕ). n == 1) is.version in
+    let version : (number_at 0 4 payload == 2) ≡ true = ap (λ (n : ℕ). n == 2) is.version in
     (λ i. cond (version i) (cond (is.rest i) None (Some (BadCell compat_number))) (Some (UnknownVersion (number_at 0 4 payload))))
 
 -- what a state cell names, in two ways of saying it
-pub names_of : (kind : PlanType) (h : Held) (bank : ℕ) (head : PlanHead) → HasSize 7 h → named_by kind h ≡ Some (bank, head) → Names kind bank head h
-names_of kind Empty bank head size is = absurd cc
-names_of kind (Twins g) bank head size is = absurd cc
-names_of kind (InForce s g payload) bank head size is = record-state_in kind payload bank head size is
+pub names_of : (layout : Layout) (kind : PlanType) (h : Held) (bank : ℕ) (head : PlanHead) → HasSize 7 h → named_by layout kind h ≡ Some (bank, head) → NamesIn layout kind bank head h
+names_of layout kind Empty bank head size is = absurd cc
+names_of layout kind (Twins g) bank head size is = absurd cc
+names_of layout kind (InForce s g payload) bank head size is = record-state_in (limit_in layout kind) payload bank head size is
 
-pub named_of : (kind : PlanType) (h : Held) (bank : ℕ) (head : PlanHead) → Names kind bank head h → named_by kind h ≡ Some (bank, head)
-named_of kind Empty bank head is = absurd is
-named_of kind (Twins g) bank head is = absurd is
-named_of kind (InForce s g payload) bank head is = state_in-record kind payload bank head is
+pub named_of : (layout : Layout) (kind : PlanType) (h : Held) (bank : ℕ) (head : PlanHead) → NamesIn layout kind bank head h → named_by layout kind h ≡ Some (bank, head)
+named_of layout kind Empty bank head is = absurd is
+named_of layout kind (Twins g) bank head is = absurd is
+named_of layout kind (InForce s g payload) bank head is = state_in-record (limit_in layout kind) payload bank head is
 
 -- the items that are read, one by one
-pub get_item : (kind : PlanType) (bank n : ℕ) (image : List ℕ) (seq : ℕ) → seq < n → slice_get (items_in kind bank n image) seq ≡ Some (item_of (record_in kind bank seq image))
-get_item kind bank zero image seq below = absurd (omega (arith, below))
-get_item kind bank (suc n) image seq below = ⊎_elim
-    (λ is. get_last (items_in kind bank n image) (item_of (record_in kind bank n image)) seq (omega (arith, is, length-items_in kind bank n image)) ∙ ap (λ (k : ℕ). Some (item_of (record_in kind bank k image))) (sym is))
-    (λ other. get_push (items_in kind bank n image) (item_of (record_in kind bank n image)) seq (omega (arith, below, other, length-items_in kind bank n image)) ∙ get_item kind bank n image seq (omega (arith, below, other)))
+pub get_item : (layout : Layout) (kind : PlanType) (bank n : ℕ) (image : List ℕ) (seq : ℕ) → seq < n → slice_get (items_read layout kind bank n image) seq ≡ Some (item_of (record_of layout kind bank seq image))
+get_item layout kind bank zero image seq below = absurd (omega (arith, below))
+get_item layout kind bank (suc n) image seq below = ⊎_elim
+    (λ is. get_last (items_read layout kind bank n image) (item_of (record_of layout kind bank n image)) seq (omega (arith, is, length-items_read layout kind bank n image)) ∙ ap (λ (k : ℕ). Some (item_of (record_of layout kind bank k image))) (sym is))
+    (λ other. get_push (items_read layout kind bank n image) (item_of (record_of layout kind bank n image)) seq (omega (arith, below, other, length-items_read layout kind bank n image)) ∙ get_item layout kind bank n image seq (omega (arith, below, other)))
     (cases_eq seq n)
 
-take_items : (kind : PlanType) (bank n : ℕ) (image : List ℕ) (k : ℕ) → k ≤ n → take k (items_in kind bank n image) ≡ items_in kind bank k image
-take_items kind bank zero image zero low = refl
-take_items kind bank zero image (suc k) low = absurd (omega (arith, low))
-take_items kind bank (suc n) image k low = ⊎_elim
-    (λ is. subst (λ (j : ℕ). take j (items_in kind bank (suc n) image) ≡ items_in kind bank j image) (sym is) (all_of (suc n)))
-    (λ other. take-push (items_in kind bank n image) (item_of (record_in kind bank n image)) k (omega (arith, low, other, length-items_in kind bank n image)) ∙ take_items kind bank n image k (omega (arith, low, other)))
+take_items : (layout : Layout) (kind : PlanType) (bank n : ℕ) (image : List ℕ) (k : ℕ) → k ≤ n → take k (items_read layout kind bank n image) ≡ items_read layout kind bank k image
+take_items layout kind bank zero image zero low = refl
+take_items layout kind bank zero image (suc k) low = absurd (omega (arith, low))
+take_items layout kind bank (suc n) image k low = ⊎_elim
+    (λ is. subst (λ (j : ℕ). take j (items_read layout kind bank (suc n) image) ≡ items_read layout kind bank j image) (sym is) (all_of (suc n)))
+    (λ other. take-push (items_read layout kind bank n image) (item_of (record_of layout kind bank n image)) k (omega (arith, low, other, length-items_read layout kind bank n image)) ∙ take_items layout kind bank n image k (omega (arith, low, other)))
     (cases_eq k (suc n))
   where
     take_whole : (xs : List Item) (j : ℕ) → j ≡ length xs → take j xs ≡ xs
@@ -125,15 +128,15 @@ take_items kind bank (suc n) image k low = ⊎_elim
     take_whole (x ∷ xs) zero is = absurd (omega (arith, is))
     take_whole (x ∷ xs) (suc j) is = ap (λ (l : List Item). x ∷ l) (take_whole xs j (omega (arith, is)))
 
-    all_of : (m : ℕ) → take m (items_in kind bank m image) ≡ items_in kind bank m image
-    all_of m = take_whole (items_in kind bank m image) m (sym (length-items_in kind bank m image))
+    all_of : (m : ℕ) → take m (items_read layout kind bank m image) ≡ items_read layout kind bank m image
+    all_of m = take_whole (items_read layout kind bank m image) m (sym (length-items_read layout kind bank m image))
 
 -- no item among those without a fault has one
-each_free : (kind : PlanType) (bank : ℕ) (head : PlanHead) (n : ℕ) (image : List ℕ) (seq : ℕ) → seq < n → items_fault kind bank head n image ≡ None → item_fault kind bank head seq image ≡ None
-each_free kind bank head zero image seq below none = absurd (omega (arith, below))
-each_free kind bank head (suc n) image seq below none =
-    let both = neither (items_fault kind bank head n image) (item_fault kind bank head n image) none in
-    ⊎_elim (λ is. subst (λ (k : ℕ). item_fault kind bank head k image ≡ None) (sym is) both.1) (λ other. each_free kind bank head n image seq (omega (arith, below, other)) both.0) (cases_eq seq n)
+each_free : (layout : Layout) (kind : PlanType) (bank : ℕ) (head : PlanHead) (n : ℕ) (image : List ℕ) (seq : ℕ) → seq < n → items_fault layout kind bank head n image ≡ None → item_fault layout kind bank head seq image ≡ None
+each_free layout kind bank head zero image seq below none = absurd (omega (arith, below))
+each_free layout kind bank head (suc n) image seq below none =
+    let both = neither (items_fault layout kind bank head n image) (item_fault layout kind bank head n image) none in
+    ⊎_elim (λ is. subst (λ (k : ℕ). item_fault layout kind bank head k image ≡ None) (sym is) both.1) (λ other. each_free layout kind bank head n image seq (omega (arith, below, other)) both.0) (cases_eq seq n)
 
 kind_is : (a b : PlanType) → is_kind a b ≡ true → a ≡ b
 kind_is Mission Mission is = refl
@@ -171,9 +174,9 @@ when_some true x y is = (refl, ap (λ (o : Option Item). unwrap_or o x) is)
 when_some false x y is = absurd cc
 
 -- the record of an item that was found
-record_of : (kind : PlanType) (id seq : ℕ) (o : Option Record) (item : Item) → item_by kind id seq o ≡ Some item → o ≡ Some (record { kind = kind; id = id; seq = seq; item = item })
-record_of kind id seq None item is = absurd cc
-record_of kind id seq (Some r) item is =
+record_found : (kind : PlanType) (id seq : ℕ) (o : Option Record) (item : Item) → item_by kind id seq o ≡ Some item → o ≡ Some (record { kind = kind; id = id; seq = seq; item = item })
+record_found kind id seq None item is = absurd cc
+record_found kind id seq (Some r) item is =
     let test = when_some (is_kind r.kind kind && r.id == id && r.seq == seq) r.item item is in
     let first = and_both (is_kind r.kind kind && r.id == id) (r.seq == seq) test.0 in
     let second = and_both (is_kind r.kind kind) (r.id == id) first.0 in
@@ -186,72 +189,79 @@ item_of_record : (kind : PlanType) (id seq : ℕ) (item : Item) → item_by kind
 item_of_record kind id seq item = (λ i. cond (is_kind_same kind i && same_number id i && same_number seq i) (Some item) None)
 
 -- the record at a seq whose item has no fault
-record_here : (kind : PlanType) (bank : ℕ) (head : PlanHead) (seq : ℕ) (image : List ℕ) → item_fault kind bank head seq image ≡ None
-    → (record_in kind bank seq image ≡ Some (record { kind = kind; id = head.id; seq = seq; item = item_of (record_in kind bank seq image) }))
-    × (PlanCode kind head.count (items_in kind bank seq image) (item_of (record_in kind bank seq image)) ≡ None)
-record_here kind bank head seq image none =
-    let there = record_in kind bank seq image in
-    let both = neither (missing kind seq (item_by kind head.id seq there)) (refused kind seq (PlanCode kind head.count (items_in kind bank seq image) (item_of there))) none in
+record_here : (layout : Layout) (kind : PlanType) (bank : ℕ) (head : PlanHead) (seq : ℕ) (image : List ℕ) → item_fault layout kind bank head seq image ≡ None
+    → (record_of layout kind bank seq image ≡ Some (record { kind = kind; id = head.id; seq = seq; item = item_of (record_of layout kind bank seq image) }))
+    × (PlanCode kind head.count (items_read layout kind bank seq image) (item_of (record_of layout kind bank seq image)) ≡ None)
+record_here layout kind bank head seq image none =
+    let there = record_of layout kind bank seq image in
+    let both = neither (missing kind seq (item_by kind head.id seq there)) (refused kind seq (PlanCode kind head.count (items_read layout kind bank seq image) (item_of there))) none in
     let found = missing_none kind seq (item_by kind head.id seq there) both.0 in
-    let is = record_of kind head.id seq there found.0 found.1 in (
+    let is = record_found kind head.id seq there found.0 found.1 in (
       subst (λ (item : Item). there ≡ Some (record { kind = kind; id = head.id; seq = seq; item = item })) (sym (ap item_of is)) is,
       refused_none kind seq _ both.1,
     )
 
+-- a layout holds no more items of a type than a plan may have
+limit_in-le : (layout : Layout) (kind : PlanType) → limit_in layout kind ≤ limit_of kind
+limit_in-le One Mission = omega arith
+limit_in-le One Fence = omega arith
+limit_in-le One Safe = omega arith
+limit_in-le Two kind = omega arith
+
 -- A plan of whose items none has a fault
-module _ (kind : PlanType) (bank : ℕ) (head : PlanHead) (image : List ℕ) (none : items_fault kind bank head head.count image ≡ None) where
+module _ (layout : Layout) (kind : PlanType) (bank : ℕ) (head : PlanHead) (image : List ℕ) (none : items_fault layout kind bank head head.count image ≡ None) where
   items : List Item
-  items = items_in kind bank head.count image
+  items = items_read layout kind bank head.count image
 
   here : (seq : ℕ) → seq < head.count
-      → (record_in kind bank seq image ≡ Some (record { kind = kind; id = head.id; seq = seq; item = item_of (record_in kind bank seq image) }))
-      × (PlanCode kind head.count (items_in kind bank seq image) (item_of (record_in kind bank seq image)) ≡ None)
-  here seq below = record_here kind bank head seq image (each_free kind bank head head.count image seq below none)
+      → (record_of layout kind bank seq image ≡ Some (record { kind = kind; id = head.id; seq = seq; item = item_of (record_of layout kind bank seq image) }))
+      × (PlanCode kind head.count (items_read layout kind bank seq image) (item_of (record_of layout kind bank seq image)) ≡ None)
+  here seq below = record_here layout kind bank head seq image (each_free layout kind bank head head.count image seq below none)
 
-  within : (seq : ℕ) (item : Item) → slice_get (items_in kind bank head.count image) seq ≡ Some item → seq < head.count
-  within seq item at = omega (arith, slice_get_within (items_in kind bank head.count image) seq item at, length-items_in kind bank head.count image)
+  within : (seq : ℕ) (item : Item) → slice_get (items_read layout kind bank head.count image) seq ≡ Some item → seq < head.count
+  within seq item at = omega (arith, slice_get_within (items_read layout kind bank head.count image) seq item at, length-items_read layout kind bank head.count image)
 
-  item_at : (seq : ℕ) (item : Item) → slice_get (items_in kind bank head.count image) seq ≡ Some item → item_of (record_in kind bank seq image) ≡ item
-  item_at seq item at = ap (λ (o : Option Item). unwrap_or o item) (sym (get_item kind bank head.count image seq (within seq item at)) ∙ at)
+  item_at : (seq : ℕ) (item : Item) → slice_get (items_read layout kind bank head.count image) seq ≡ Some item → item_of (record_of layout kind bank seq image) ≡ item
+  item_at seq item at = ap (λ (o : Option Item). unwrap_or o item) (sym (get_item layout kind bank head.count image seq (within seq item at)) ∙ at)
 
   -- stands in its bank
-  pub items_stand : HasItems kind bank (plan_in kind bank head image) image
+  pub items_stand : HasItemsIn layout kind bank (plan_read layout kind bank head image) image
   items_stand seq item at =
-      subst (λ (x : Item). record_in kind bank seq image ≡ Some (record { kind = kind; id = head.id; seq = seq; item = x })) (item_at seq item at) (here seq (within seq item at)).0
+      subst (λ (x : Item). record_of layout kind bank seq image ≡ Some (record { kind = kind; id = head.id; seq = seq; item = x })) (item_at seq item at) (here seq (within seq item at)).0
 
   -- and is valid
-  pub items_valid : head.count ≤ limit_of kind → PlanValid kind (items_in kind bank head.count image)
+  pub items_valid : head.count ≤ limit_in layout kind → PlanValid kind (items_read layout kind bank head.count image)
   items_valid low = record {
-    within = omega (arith, low, length-items_in kind bank head.count image);
+    within = omega (arith, low, limit_in-le layout kind, length-items_read layout kind bank head.count image);
     accepted = λ seq item at.
         let below = within seq item at in
-        (λ i. PlanCode kind (length-items_in kind bank head.count image i) (take_items kind bank head.count image seq (omega (arith, below)) i) (sym (item_at seq item at) i)) ∙ (here seq below).1;
+        (λ i. PlanCode kind (length-items_read layout kind bank head.count image i) (take_items layout kind bank head.count image seq (omega (arith, below)) i) (sym (item_at seq item at) i)) ∙ (here seq below).1;
   }
 
 -- A valid plan that stands in its bank
-module _ (kind : PlanType) (bank : ℕ) (plan : StoredPlan) (image : List ℕ) (stand : HasItems kind bank plan image) (valid : PlanValid kind plan.items) where
+module _ (layout : Layout) (kind : PlanType) (bank : ℕ) (plan : StoredPlan) (image : List ℕ) (stand : HasItemsIn layout kind bank plan image) (valid : PlanValid kind plan.items) where
   get_some : (xs : List Item) (k : ℕ) → k < length xs → (x : Item) × (slice_get xs k ≡ Some x)
   get_some [] k below = absurd (omega (arith, below))
   get_some (x ∷ xs) zero below = (x, refl)
   get_some (x ∷ xs) (suc k) below = get_some xs k (omega (arith, below))
 
-  read_as : (n : ℕ) → n ≤ length plan.items → items_in kind bank n image ≡ take n plan.items
+  read_as : (n : ℕ) → n ≤ length plan.items → items_read layout kind bank n image ≡ take n plan.items
   read_as zero low = refl
   read_as (suc n) low =
       let item = get_some plan.items n (omega (arith, low)) in
-      let is : item_of (record_in kind bank n image) ≡ item.0 = ap item_of (stand n item.0 item.1) in
+      let is : item_of (record_of layout kind bank n image) ≡ item.0 = ap item_of (stand n item.0 item.1) in
       (λ i. read_as n (omega (arith, low)) i ++ is i ∷ []) ∙ sym (take_one plan.items n item.0 item.1)
 
-  item_free : (n : ℕ) → n < length plan.items → item_fault kind bank (head_of plan) n image ≡ None
+  item_free : (n : ℕ) → n < length plan.items → item_fault layout kind bank (head_of plan) n image ≡ None
   item_free n below =
       let item = get_some plan.items n below in
       let is = stand n item.0 item.1 in
-      let coded : PlanCode kind (length plan.items) (items_in kind bank n image) (item_of (record_in kind bank n image)) ≡ None =
+      let coded : PlanCode kind (length plan.items) (items_read layout kind bank n image) (item_of (record_of layout kind bank n image)) ≡ None =
       (λ i. PlanCode kind (length plan.items) (read_as n (omega (arith, below)) i) (item_of (is i))) ∙ valid.accepted n item.0 item.1 in
       none_of_two _ _ (ap (λ (o : Option Record). missing kind n (item_by kind plan.id n o)) is ∙ ap (missing kind n) (item_of_record kind plan.id n item.0)) (ap (refused kind n) coded)
 
   -- has no fault
-  pub plan_free : (n : ℕ) → n ≤ length plan.items → items_fault kind bank (head_of plan) n image ≡ None
+  pub plan_free : (n : ℕ) → n ≤ length plan.items → items_fault layout kind bank (head_of plan) n image ≡ None
   plan_free zero low = refl
   plan_free (suc n) low = none_of_two _ _ (plan_free n (omega (arith, low))) (item_free n (omega (arith, low)))
 
@@ -317,15 +327,15 @@ mark_is mission mark none =
     (λ same. let is = fits_is mark mission same in subst (λ (o : Option PlainMark). IsMarkOf mission o mark) (sym (kept_same mission.id mark is.id)) (refl, is))
     (or_true (nat_lt mark.id mission.id) (fits mark mission) test.0)
 
-stored_mark : (mission : StoredPlan) (payload : List ℕ) (o : Option PlainMark) → length payload ≡ 71 → mark_in payload ≡ o → unfit mission o ≡ None → (stored : PlainMark) × MarkRecord payload stored × IsMarkOf mission (kept_of mission.id o) stored
-stored_mark mission payload None size is none = absurd cc
-stored_mark mission payload (Some mark) size is none = (mark, record-mark_in payload mark size is, mark_is mission mark none)
+stored_mark : (layout : Layout) (mission : StoredPlan) (payload : List ℕ) (o : Option PlainMark) → length payload ≡ 7 + 4 * most_pairs layout → mark_in (most_pairs layout) payload ≡ o → unfit mission o ≡ None → (stored : PlainMark) × MarkRecord (most_pairs layout) payload stored × IsMarkOf mission (kept_of mission.id o) stored
+stored_mark layout mission payload None size is none = absurd cc
+stored_mark layout mission payload (Some mark) size is none = (mark, record-mark_in (most_pairs layout) payload mark size is, mark_is mission mark none)
 
 -- the mark cell without a fault has a mark of the mission, or none of it
-pub mark_of : (mission : StoredPlan) (h : Held) → HasSize 71 h → mark_fault mission h ≡ None → HasMark mission (mark_at mission.id h) h
-mark_of mission Empty size none = refl
-mark_of mission (Twins g) size none = absurd cc
-mark_of mission (InForce s g payload) size none = stored_mark mission payload (mark_in payload) size refl none
+pub mark_of : (layout : Layout) (mission : StoredPlan) (h : Held) → HasSize (7 + 4 * most_pairs layout) h → mark_fault layout mission h ≡ None → HasMarkIn layout mission (mark_at layout mission.id h) h
+mark_of layout mission Empty size none = refl
+mark_of layout mission (Twins g) size none = absurd cc
+mark_of layout mission (InForce s g payload) size none = stored_mark layout mission payload (mark_in (most_pairs layout) payload) size refl none
 
 either_true : (a b : Bool) → (a ≡ true) ⊎ (b ≡ true) → (a || b) ≡ true
 either_true a b (inl is) = ap (λ (x : Bool). x || b) is
@@ -337,9 +347,9 @@ mark_passes mission None stored is = inl (grind (arith, nat_tests, is))
 mark_passes mission (Some mark) stored is = inr (subst (λ (m : PlainMark). fits m mission ≡ true) (sym is.0) (is_fits mark mission is.1))
 
 -- and one that has has no fault
-pub mark_free : (mission : StoredPlan) (mark : Option PlainMark) (h : Held) → HasMark mission mark h → mark_fault mission h ≡ None
-mark_free mission mark Empty has = refl
-mark_free mission mark (Twins g) has = absurd has
-mark_free mission mark (InForce s g payload) has =
-    ap (unfit mission) (mark_in-record payload has.0 has.1)
+pub mark_free : (layout : Layout) (mission : StoredPlan) (mark : Option PlainMark) (h : Held) → HasMarkIn layout mission mark h → mark_fault layout mission h ≡ None
+mark_free layout mission mark Empty has = refl
+mark_free layout mission mark (Twins g) has = absurd has
+mark_free layout mission mark (InForce s g payload) has =
+    ap (unfit mission) (mark_in-record (most_pairs layout) payload has.0 has.1)
     ∙ ap (λ (b : Bool). cond b None (Some (BadCell mark_number))) (either_true (nat_lt has.0.id mission.id) (fits has.0 mission) (mark_passes mission mark has.0 has.2))

@@ -6,3 +6,5 @@ mod Gathered
 mod Exactly
 mod Up
 mod Emptied
+pub mod Marked
+pub mod Repeats

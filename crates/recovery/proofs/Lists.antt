@@ -1,5 +1,5 @@
 -- Tests of all elements of a list, one after another.
-use Rattle.std.specs.Prelude.{◌≡◌, ℕ, zero, suc, ◌+◌, ◌<◌, ◌≤◌, ◌&&◌, Bool, true, false, List, [], ◌∷◌, ◌++◌, length, take, drop, slice_set, Option, Some, None, slice_get, unwrap_or}
+use Rattle.std.specs.Prelude.{◌≡◌, ℕ, zero, suc, ◌+◌, ◌<◌, ◌≤◌, ◌&&◌, Bool, true, false, List, [], ◌∷◌, ◌++◌, length, take, drop, Option, Some, None, slice_get, unwrap_or}
 use Rattle.std.specs.List.{list_all}
 use Rattle.std.proofs.Common.{refl, sym, ap, ◌∙◌, arith}
 
@@ -48,24 +48,6 @@ pub take-push : {X : Type 0} (xs : List X) (x : X) (k : ℕ) → k ≤ length xs
 take-push xs x zero low = refl
 take-push [] x (suc k) low = absurd (omega (arith, low))
 take-push (y ∷ xs) x (suc k) low = ap (λ (l : List _). y ∷ l) (take-push xs x k (omega (arith, low)))
-
--- one element is another
-pub get_set : {X : Type 0} (xs : List X) (k : ℕ) (x : X) → k < length xs → slice_get (slice_set xs k x) k ≡ Some x
-get_set [] k x below = absurd (omega (arith, below))
-get_set (y ∷ xs) zero x below = refl
-get_set (y ∷ xs) (suc k) x below = get_set xs k x (omega (arith, below))
-
-pub get_other : {X : Type 0} (xs : List X) (k j : ℕ) (x : X) → (j ≡ k → ⊥) → slice_get (slice_set xs k x) j ≡ slice_get xs j
-get_other [] k j x other = refl
-get_other (y ∷ xs) zero zero x other = absurd (other refl)
-get_other (y ∷ xs) zero (suc j) x other = refl
-get_other (y ∷ xs) (suc k) zero x other = refl
-get_other (y ∷ xs) (suc k) (suc j) x other = get_other xs k j x (λ is. other (omega (arith, is)))
-
-pub length-set : {X : Type 0} (xs : List X) (k : ℕ) (x : X) → length (slice_set xs k x) ≡ length xs
-length-set [] k x = refl
-length-set (y ∷ xs) zero x = refl
-length-set (y ∷ xs) (suc k) x = omega (arith, length-set xs k x)
 
 -- one more of the first elements
 pub take_one : {X : Type 0} (xs : List X) (k : ℕ) (x : X) → slice_get xs k ≡ Some x → take (suc k) xs ≡ take k xs ++ x ∷ []

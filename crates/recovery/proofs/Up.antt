@@ -1,4 +1,5 @@
 -- The banks of a boot, and what it tells of them.
+use Rattle.dataman_layout.specs.declared.layout.Layout.TheVariants.{Two}
 use Rattle.std.specs.Prelude.{◌≡◌, ℕ, IsTrue, List, [], ◌∷◌, Option, None}
 use Rattle.std.proofs.Common.{sym, subst, ◌∙◌}
 use Rattle.mission_model.specs.declared.plan.PlanType.TheVariants.{Mission, Fence, Safe}
@@ -7,7 +8,7 @@ use Rattle.mission_model.specs.PlainMark.{PlainMark}
 use Rattle.disk_model.specs.Disk.{DiskState, IsSound}
 use Rattle.bank_state.specs.declared.parts.Parts.{Parts}
 use Rattle.bank_state.specs.Plans.{Plans, head_of}
-use Rattle.bank_state.specs.StandsFor.{StandsFor, IsOf}
+use Rattle.bank_state.specs.StandsFor.{StandsIn, StandsFor, IsOf}
 use Rattle.bank_state.specs.Ledger.{Ledger, ledger_of, plan_by, holding_in}
 use Rattle.bank_state.specs.Store.{IsStore}
 use Rattle.bank_state.specs.Standing.{calm_of, stands_now}
@@ -50,5 +51,5 @@ none_is_disk (BadCell number) stopped = absurd cc
 none_is_disk (BadItem kind seq) stopped = absurd cc
 
 -- over bytes that stand for something only the disk can stop it
-pub only_disk : (image : List ℕ) (plans : Plans) (mark : PlainMark) (f : BootFault) → StandsFor image plans mark → StoppedBy (fault_in image) f → IsOfDisk f
+pub only_disk : (image : List ℕ) (plans : Plans) (mark : PlainMark) (f : BootFault) → StandsIn Two image plans mark → StoppedBy (fault_in image) f → IsOfDisk f
 only_disk image plans mark f stands stopped = none_is_disk f (subst (λ (o : Option BootFault). StoppedBy o f) (no_fault image plans mark stands) stopped)

@@ -1,4 +1,7 @@
 -- What a boot finds wrong with an image of the store: the first fault in the order of its reads.
+use Rattle.dataman_layout.specs.Layouts.{limit_in, most_pairs}
+use Rattle.dataman_layout.specs.declared.layout.Layout.{Layout}
+use Rattle.dataman_layout.specs.declared.layout.Layout.TheVariants.{Two}
 use Rattle.std.specs.Prelude.{ℕ, zero, suc, ◌+◌, ◌==◌, ◌&&◌, ◌||◌, Bool, false, List, [], ◌∷◌, drop, get_or, length, nat_le, nat_lt, slice_get, Option, Some, None, if◌then◌else◌}
 use Rattle.std.specs.List.{list_all}
 use Rattle.mission_model.specs.declared.command.Jump.{Jump}
@@ -16,8 +19,8 @@ use Rattle.dataman_layout.specs.Places.{type_rank}
 use Rattle.dataman_layout.specs.State.{state_in}
 use Rattle.dataman_layout.specs.Mark.{mark_in}
 use Rattle.plan_store.specs.StoreState.{StoredPlan}
-use Rattle.bank_state.specs.StandsFor.{compat_place, state_place, mark_place, record_in}
-use Rattle.bank_state.specs.Ledger.{item_of, items_in, plan_in}
+use Rattle.bank_state.specs.StandsFor.{compat_place, state_cell, mark_cell, record_of}
+use Rattle.bank_state.specs.Ledger.{item_of, items_read, plan_read}
 use Rattle.bank_state.specs.Outcomes.{item_by}
 use Rattle.recovery.specs.declared.fault.BootFault.{BootFault}
 use Rattle.recovery.specs.declared.fault.BootFault.TheVariants.{NotAStore, UnknownVersion, BadCell, BadItem}
@@ -48,10 +51,10 @@ twins_fault number Empty = None
 twins_fault number (Twins generation) = Some (BadCell number)
 twins_fault number (InForce second generation payload) = None
 
--- another version than this layout's, which is 1, and then other bytes behind it than zeros
+-- another version than this layout's, which is 2, and then other bytes behind it than zeros
 abbrev pub version_fault : List ℕ → Option BootFault
 version_fault payload =
-    if number_at 0 4 payload == 1 then (if is_zeros (drop 4 payload) then None else Some (BadCell compat_number)) else Some (UnknownVersion (number_at 0 4 payload))
+    if number_at 0 4 payload == 2 then (if is_zeros (drop 4 payload) then None else Some (BadCell compat_number)) else Some (UnknownVersion (number_at 0 4 payload))
 
 -- the fault of the compat cell, and of the first byte of the store, where none of its gates is open
 abbrev pub compat_fault : ℕ → Held → Option BootFault
@@ -60,18 +63,18 @@ compat_fault byte (Twins generation) = Some (BadCell compat_number)
 compat_fault byte (InForce second generation payload) = version_fault payload
 
 -- the bank and the plan that a state cell names: none with twins, without an open gate, and by other bytes than a state's
-abbrev pub named_by : PlanType → Held → Option (ℕ × PlanHead)
-named_by kind Empty = None
-named_by kind (Twins generation) = None
-named_by kind (InForce second generation payload) = state_in kind payload
+abbrev pub named_by : Layout → PlanType → Held → Option (ℕ × PlanHead)
+named_by layout kind Empty = None
+named_by layout kind (Twins generation) = None
+named_by layout kind (InForce second generation payload) = state_in (limit_in layout kind) payload
 
 abbrev pub unnamed : ℕ → Option (ℕ × PlanHead) → Option BootFault
 unnamed number None = Some (BadCell number)
 unnamed number (Some named) = None
 
 -- the fault of a state cell
-abbrev pub state_fault : PlanType → Held → Option BootFault
-state_fault kind cell = unnamed (state_number kind) (named_by kind cell)
+abbrev pub state_fault : Layout → PlanType → Held → Option BootFault
+state_fault layout kind cell = unnamed (state_number kind) (named_by layout kind cell)
 
 -- a place that has no record of its type, id and seq
 abbrev pub missing : PlanType → ℕ → Option Item → Option BootFault
@@ -84,23 +87,23 @@ refused kind seq None = None
 refused kind seq (Some code) = Some (BadItem kind seq)
 
 -- the fault of an item of a plan in a bank: its record is missing, or it has a code after the items before it
-abbrev pub item_fault : PlanType → ℕ → PlanHead → ℕ → List ℕ → Option BootFault
-item_fault kind bank head seq image =
-    or_else (missing kind seq (item_by kind head.id seq (record_in kind bank seq image)))
-    (refused kind seq (PlanCode kind head.count (items_in kind bank seq image) (item_of (record_in kind bank seq image))))
+abbrev pub item_fault : Layout → PlanType → ℕ → PlanHead → ℕ → List ℕ → Option BootFault
+item_fault layout kind bank head seq image =
+    or_else (missing kind seq (item_by kind head.id seq (record_of layout kind bank seq image)))
+    (refused kind seq (PlanCode kind head.count (items_read layout kind bank seq image) (item_of (record_of layout kind bank seq image))))
 
 -- the first fault of the first n items of a plan
-abbrev pub items_fault : PlanType → ℕ → PlanHead → ℕ → List ℕ → Option BootFault
-items_fault kind bank head zero image = None
-items_fault kind bank head (suc n) image = or_else (items_fault kind bank head n image) (item_fault kind bank head n image)
+abbrev pub items_fault : Layout → PlanType → ℕ → PlanHead → ℕ → List ℕ → Option BootFault
+items_fault layout kind bank head zero image = None
+items_fault layout kind bank head (suc n) image = or_else (items_fault layout kind bank head n image) (item_fault layout kind bank head n image)
 
-abbrev pub named_fault : PlanType → List ℕ → Option (ℕ × PlanHead) → Option BootFault
-named_fault kind image None = None
-named_fault kind image (Some named) = items_fault kind named.0 named.1 named.1.count image
+abbrev pub named_fault : Layout → PlanType → List ℕ → Option (ℕ × PlanHead) → Option BootFault
+named_fault layout kind image None = None
+named_fault layout kind image (Some named) = items_fault layout kind named.0 named.1 named.1.count image
 
 -- the first fault of the items of the plan in force
-abbrev pub plan_fault : PlanType → List ℕ → Option BootFault
-plan_fault kind image = named_fault kind image (named_by kind (held (state_place kind) image))
+abbrev pub plan_fault : Layout → PlanType → List ℕ → Option BootFault
+plan_fault layout kind image = named_fault layout kind image (named_by layout kind (held (state_cell layout kind) image))
 
 -- the jump allows so many uses
 abbrev pub allows : Option Jump → ℕ → Bool
@@ -126,28 +129,32 @@ unfit mission None = Some (BadCell mark_number)
 unfit mission (Some mark) = if nat_lt mark.id mission.id || fits mark mission then None else Some (BadCell mark_number)
 
 -- the fault of the mark cell
-abbrev pub mark_fault : StoredPlan → Held → Option BootFault
-mark_fault mission Empty = None
-mark_fault mission (Twins generation) = Some (BadCell mark_number)
-mark_fault mission (InForce second generation payload) = unfit mission (mark_in payload)
+abbrev pub mark_fault : Layout → StoredPlan → Held → Option BootFault
+mark_fault layout mission Empty = None
+mark_fault layout mission (Twins generation) = Some (BadCell mark_number)
+mark_fault layout mission (InForce second generation payload) = unfit mission (mark_in (most_pairs layout) payload)
 
-abbrev pub named_plan : PlanType → List ℕ → Option (ℕ × PlanHead) → StoredPlan
-named_plan kind image None = record { id = 0; items = [] }
-named_plan kind image (Some named) = plan_in kind named.0 named.1 image
+abbrev pub named_plan : Layout → PlanType → List ℕ → Option (ℕ × PlanHead) → StoredPlan
+named_plan layout kind image None = record { id = 0; items = [] }
+named_plan layout kind image (Some named) = plan_read layout kind named.0 named.1 image
 
 -- the plan in force
-abbrev pub plan_at : PlanType → List ℕ → StoredPlan
-plan_at kind image = named_plan kind image (named_by kind (held (state_place kind) image))
+abbrev pub plan_at : Layout → PlanType → List ℕ → StoredPlan
+plan_at layout kind image = named_plan layout kind image (named_by layout kind (held (state_cell layout kind) image))
 
 -- the first fault of the state cells, in order of their types
-abbrev pub states_fault : List ℕ → Option BootFault
-states_fault image =
-    first_of (state_fault Mission (held (state_place Mission) image) ∷ state_fault Fence (held (state_place Fence) image) ∷ state_fault Safe (held (state_place Safe) image) ∷ [])
+abbrev pub states_fault : Layout → List ℕ → Option BootFault
+states_fault layout image =
+    first_of (state_fault layout Mission (held (state_cell layout Mission) image) ∷ state_fault layout Fence (held (state_cell layout Fence) image) ∷ state_fault layout Safe (held (state_cell layout Safe) image) ∷ [])
 
 -- the first fault of the items in force, in order of their types and seqs
-abbrev pub plans_fault : List ℕ → Option BootFault
-plans_fault image = first_of (plan_fault Mission image ∷ plan_fault Fence image ∷ plan_fault Safe image ∷ [])
+abbrev pub plans_fault : Layout → List ℕ → Option BootFault
+plans_fault layout image = first_of (plan_fault layout Mission image ∷ plan_fault layout Fence image ∷ plan_fault layout Safe image ∷ [])
 
--- The first fault of an image: of the compat cell, of the state cells, of the items in force, of the mark cell.
+-- the first fault behind the compat cell: of the state cells, of the items in force, of the mark cell
+abbrev pub fault_behind : Layout → List ℕ → Option BootFault
+fault_behind layout image = first_of (states_fault layout image ∷ plans_fault layout image ∷ mark_fault layout (plan_at layout Mission image) (held (mark_cell layout) image) ∷ [])
+
+-- The first fault of an image: of the compat cell, and behind it by layout 2.
 abbrev pub fault_in : List ℕ → Option BootFault
-fault_in image = first_of (compat_fault (get_or image 0 0) (held compat_place image) ∷ states_fault image ∷ plans_fault image ∷ mark_fault (plan_at Mission image) (held mark_place image) ∷ [])
+fault_in image = or_else (compat_fault (get_or image 0 0) (held compat_place image)) (fault_behind Two image)

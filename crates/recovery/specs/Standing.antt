@@ -1,4 +1,7 @@
 -- What an image without a fault stands for, and what a boot tells of it.
+use Rattle.dataman_layout.specs.Layouts.{most_pairs}
+use Rattle.dataman_layout.specs.declared.layout.Layout.{Layout}
+use Rattle.dataman_layout.specs.declared.layout.Layout.TheVariants.{Two}
 use Rattle.std.specs.Prelude.{◌≡◌, ◌↔◌, ℕ, ◌+◌, ◌==◌, List, [], ◌∷◌, Option, Some, None, unwrap_or, if◌then◌else◌}
 use Rattle.mission_model.specs.declared.plan.PlanHead.{PlanHead}
 use Rattle.mission_model.specs.declared.plan.PlanType.TheVariants.{Mission, Fence, Safe}
@@ -8,7 +11,7 @@ use Rattle.gated_cell.specs.Cell.{Held, Empty, Twins, InForce, held}
 use Rattle.dataman_layout.specs.Mark.{mark_in}
 use Rattle.plan_store.specs.StoreState.{first_mark}
 use Rattle.bank_state.specs.Plans.{Plans, Holding, head_of}
-use Rattle.bank_state.specs.StandsFor.{StandsFor, mark_place}
+use Rattle.bank_state.specs.StandsFor.{mark_cell, StandsIn}
 use Rattle.bank_state.specs.Ledger.{Ledger, mark_by}
 use Rattle.recovery.specs.Faults.{fault_in, plan_at}
 
@@ -18,18 +21,18 @@ kept_of id None = None
 kept_of id (Some mark) = if mark.id == id then Some mark else None
 
 -- the stored mark of the mission of this id, if one is stored
-abbrev pub mark_at : ℕ → Held → Option PlainMark
-mark_at id Empty = None
-mark_at id (Twins generation) = None
-mark_at id (InForce second generation payload) = kept_of id (mark_in payload)
+abbrev pub mark_at : Layout → ℕ → Held → Option PlainMark
+mark_at layout id Empty = None
+mark_at layout id (Twins generation) = None
+mark_at layout id (InForce second generation payload) = kept_of id (mark_in (most_pairs layout) payload)
 
--- the plans in force, and the mark: the mission's where one is stored, and else its begin
-abbrev pub holding_of : List ℕ → Holding
-holding_of image =
-    let mission = plan_at Mission image in
+-- the plans in force in a layout, and the mark: the mission's where one is stored, and else its begin
+abbrev pub holding_by : Layout → List ℕ → Holding
+holding_by layout image =
+    let mission = plan_at layout Mission image in
     record {
-      plans = record { mission = mission; fence = plan_at Fence image; safe = plan_at Safe image };
-      mark = unwrap_or (mark_at mission.id (held mark_place image)) (first_mark mission.id);
+      plans = record { mission = mission; fence = plan_at layout Fence image; safe = plan_at layout Safe image };
+      mark = unwrap_or (mark_at layout mission.id (held (mark_cell layout) image)) (first_mark mission.id);
     }
 
 -- a boot tells the heads of these plans and this mark
@@ -47,6 +50,6 @@ pub record TellsBanks (state : BootState) (ledger : Ledger) : Type 0 where
   pub heads : state.heads ≡ (ledger.entries Mission).head ∷ (ledger.entries Fence).head ∷ (ledger.entries Safe).head ∷ []
   pub marked : plain_mark state.mark ≡ mark_by ledger
 
--- An image has no fault exactly where it stands for something.
+-- An image has no fault exactly where it stands for something in layout 2.
 abbrev pub NoFaultExactly : List ℕ → Type 0
-NoFaultExactly image = (fault_in image ≡ None) ↔ ((plans : Plans) × (mark : PlainMark) × StandsFor image plans mark)
+NoFaultExactly image = (fault_in image ≡ None) ↔ ((plans : Plans) × (mark : PlainMark) × StandsIn Two image plans mark)

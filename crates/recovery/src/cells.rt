@@ -1,5 +1,7 @@
 // The cells of a store, opened in the order of a boot.
-ghost use Rattle.std.specs.Prelude.{◌≡◌, ◌+◌, ◌*◌, ◌≤◌, ◌-◌, false, get_or, length, IsTrue, IfOk, IfErr};
+ghost use Rattle.dataman_layout.specs.Layouts.{limit_in, most_pairs};
+ghost use Rattle.dataman_layout.specs.State.{StateRecord, state_in};
+ghost use Rattle.std.specs.Prelude.{◌≡◌, ◌+◌, ◌*◌, ◌≤◌, ◌-◌, false, get_or, length, IsTrue, IfSome, IfOk, IfErr};
 ghost use Rattle.mission_model.specs.declared.limits.TheConstants.{STORE_BYTES};
 ghost use Rattle.mission_model.specs.PlainMark.{plain_mark};
 ghost use Rattle.disk_model.specs.Disk.{Only};
@@ -7,21 +9,24 @@ ghost use Rattle.gated_cell.specs.Cell.{held};
 ghost use Rattle.dataman_layout.specs.Mark.{mark_in, plain_marks};
 ghost use Rattle.plan_store.specs.StoreState.{StoredPlan};
 ghost use Rattle.bank_state.specs.Plans.{head_of};
-ghost use Rattle.bank_state.specs.StandsFor.{compat_place, state_place, mark_place};
+ghost use Rattle.bank_state.specs.StandsFor.{compat_place, state_cell, mark_cell};
 ghost use Rattle.recovery.specs.declared.fault.BootFault.TheVariants.{BadCell};
 ghost use Rattle.recovery.specs.Faults.{twins_fault, version_fault, compat_fault, state_number, state_fault, states_fault, mark_number, fits, unfit, mark_fault};
 ghost use Rattle.recovery.specs.Standing.{kept_of, mark_at};
 ghost use Rattle.recovery.specs.Steps.{Step, IsOfDisk, Answers, judged, fault_of};
-ghost use Rattle.recovery.specs.Found.{IsFound, IsOpened, AreBanks, BanksIn, AreStates, StatesIn, HasJumps};
+ghost use Rattle.recovery.specs.Found.{IsFound, IsMarkFound, IsOpened, AreBanks, BanksIn, AreStates, StatesIn, HasJumps};
 
 use crate::BootFault;
-use crate::jumps::Jumps;
+use crate::jumps::allow;
 use bank_state::PlanBanks;
-use dataman_layout::places::{COMPAT_AT, MARK_AT, MARK_SLOT_BYTES, SMALL_SLOT_BYTES, state_at};
-use dataman_layout::{LAYOUT_VERSION, decode_compat, decode_mark, decode_state, version_in};
+use dataman_layout::places::{COMPAT_AT, SMALL_SLOT_BYTES, mark_at, mark_slot_bytes, state_at};
+use dataman_layout::{
+    Layout, decode_compat, decode_mark, decode_mark_one, decode_state, decode_state_one,
+    version_in, version_of,
+};
 use disk_model::Disk;
 use gated_cell::{CellFault, CellPlace, GatedCell};
-use mission_model::{Mark, PlanHead, PlanType};
+use mission_model::{Counts, Mark, PlanHead, PlanType};
 
 /// The number of the compat cell, before those of the states.
 pub const COMPAT_CELL: u8 = 0;
@@ -90,7 +95,7 @@ fn judge_version(payload: &[u8; 7]) -> Result<(), BootFault>
     ensures { result ≡ judged (version_fault payload.now) }
 {
     let version = version_in(payload);
-    if version != LAYOUT_VERSION {
+    if version != version_of(Layout::Two) {
         return Err(BootFault::UnknownVersion(version));
     }
     match decode_compat(payload) {
@@ -119,25 +124,36 @@ pub fn open_compat<D: Disk>(disk: &mut D) -> Result<(), BootFault>
     judge_version(&payload)
 }
 
+/// The bank and the plan that these bytes of a state cell name.
+fn named_in(layout: Layout, kind: PlanType, payload: &[u8; 7]) -> Option<(u8, PlanHead)>
+    ensures read { result ≡ state_in (limit_in layout kind) payload.now }
+    ensures found { IfSome result (λ s. StateRecord (limit_in layout kind) payload.now s.0 s.1) }
+{
+    match layout {
+        Layout::One => decode_state_one(kind, payload),
+        Layout::Two => decode_state(kind, payload),
+    }
+}
+
 /// Opens the state cell of a plan's type, which names the bank in force and the plan in it.
-fn open_state<D: Disk>(disk: &mut D, kind: PlanType) -> Result<PlanBanks, BootFault>
+fn open_state<D: Disk>(disk: &mut D, layout: Layout, kind: PlanType) -> Result<PlanBanks, BootFault>
     requires room { STORE_BYTES ≤ (D.state disk.old).meter.size }
     requires only { Only (D.state disk.old).seen (D.state disk.old).images }
     ensures step { Step 2 (D.state disk.old) (D.state disk.new) result }
-    ensures banks { IfOk result (λ banks. AreBanks kind banks) }
-    ensures answers { IsTrue (D.state disk.old).tells → Answers (state_fault kind (held (state_place kind) (D.state disk.old).seen)) (λ banks. BanksIn kind banks (D.state disk.old).seen) result }
+    ensures banks { IfOk result (λ banks. AreBanks layout kind banks) }
+    ensures answers { IsTrue (D.state disk.old).tells → Answers (state_fault layout kind (held (state_cell layout kind) (D.state disk.old).seen)) (λ banks. BanksIn layout kind banks (D.state disk.old).seen) result }
 {
     let mut payload = [0; 7];
     let number = state_number(kind);
     let place = CellPlace {
-        at: state_at(kind),
+        at: state_at(layout, kind),
         slot_bytes: SMALL_SLOT_BYTES,
     };
     let cell = open_cell(disk, number, place, &mut payload)?;
     if !cell.has_payload() {
         return Err(BootFault::BadCell(number));
     }
-    match decode_state(kind, &payload) {
+    match named_in(layout, kind, &payload) {
         Some((bank, head)) => Ok(PlanBanks { cell, bank, head }),
         None => Err(BootFault::BadCell(number)),
     }
@@ -152,16 +168,16 @@ pub struct States {
 }
 
 /// Opens the state cells in order of their types.
-pub fn open_states<D: Disk>(disk: &mut D) -> Result<States, BootFault>
+pub fn open_states<D: Disk>(disk: &mut D, layout: Layout) -> Result<States, BootFault>
     requires room { STORE_BYTES ≤ (D.state disk.old).meter.size }
     requires only { Only (D.state disk.old).seen (D.state disk.old).images }
     ensures step { Step 6 (D.state disk.old) (D.state disk.new) result }
-    ensures states { IfOk result AreStates }
-    ensures answers { IsTrue (D.state disk.old).tells → Answers (states_fault (D.state disk.old).seen) (λ states. StatesIn states (D.state disk.old).seen) result }
+    ensures states { IfOk result (λ states. AreStates layout states) }
+    ensures answers { IsTrue (D.state disk.old).tells → Answers (states_fault layout (D.state disk.old).seen) (λ states. StatesIn layout states (D.state disk.old).seen) result }
 {
-    let mission = open_state(disk, PlanType::Mission)?;
-    let fence = open_state(disk, PlanType::Fence)?;
-    let safe = open_state(disk, PlanType::Safe)?;
+    let mission = open_state(disk, layout, PlanType::Mission)?;
+    let fence = open_state(disk, layout, PlanType::Fence)?;
+    let safe = open_state(disk, layout, PlanType::Safe)?;
     Ok(States {
         mission,
         fence,
@@ -170,23 +186,23 @@ pub fn open_states<D: Disk>(disk: &mut D) -> Result<States, BootFault>
 }
 
 /// Whether a mark is one of this mission, whose jumps these are.
-fn fits(mark: &Mark, mission: PlanHead, jumps: &Jumps) -> bool
+fn fits(mark: &Mark, mission: PlanHead, jumps: &Counts) -> bool
     ensures { (plan : StoredPlan) → head_of plan ≡ mission → HasJumps plan.items jumps.now → result ≡ fits (plain_mark mark.now) plan }
 {
-    mark.id == mission.id && mark.index <= mission.count && jumps.allow(&mark.counts)
+    mark.id == mission.id && mark.index <= mission.count && allow(jumps, &mark.counts)
 }
 
-/// The mark that these bytes are, if it is of this mission. One of a mission before is as good as none.
+/// The mark that was read, if it is of this mission. One of a mission before is as good as none.
 fn judge_mark(
-    payload: &[u8; 71],
+    found: Option<Mark>,
     mission: PlanHead,
-    jumps: &Jumps,
+    jumps: &Counts,
 ) -> Result<Option<Mark>, BootFault>
     ensures fault { IfErr result (λ fault. fault ≡ BadCell mark_number) }
     ensures answers { (plan : StoredPlan) → head_of plan ≡ mission → HasJumps plan.items jumps.now →
-        Answers (unfit plan (mark_in payload.now)) (λ mark. plain_marks mark ≡ kept_of mission.id (mark_in payload.now)) result }
+        Answers (unfit plan (plain_marks found)) (λ mark. plain_marks mark ≡ kept_of mission.id (plain_marks found)) result }
 {
-    match decode_mark(payload) {
+    match found {
         Some(mark) => {
             if mark.id < mission.id {
                 Ok(None)
@@ -200,30 +216,58 @@ fn judge_mark(
     }
 }
 
+/// What the mark cell has in force: nothing, or a payload with the mark that it is, if it is one's.
+fn read_mark<D: Disk>(disk: &mut D, layout: Layout) -> Result<(GatedCell, Option<Mark>), BootFault>
+    requires room { STORE_BYTES ≤ (D.state disk.old).meter.size }
+    requires only { Only (D.state disk.old).seen (D.state disk.old).images }
+    ensures step { Step 2 (D.state disk.old) (D.state disk.new) result }
+    ensures place { IfOk result (λ found. found.0.place ≡ mark_cell layout) }
+    ensures calm { IfOk result (λ found. found.0.doubt ≡ false) }
+    ensures answers { IsTrue (D.state disk.old).tells → Answers (twins_fault mark_number (held (mark_cell layout) (D.state disk.old).seen))
+        (λ found. IsMarkFound layout found.0 (plain_marks found.1) (D.state disk.old).seen) result }
+{
+    match layout {
+        Layout::One => {
+            let mut payload = [0; 71];
+            let place = CellPlace {
+                at: mark_at(Layout::One),
+                slot_bytes: mark_slot_bytes(Layout::One),
+            };
+            let cell = open_cell(disk, MARK_CELL, place, &mut payload)?;
+            Ok((cell, decode_mark_one(&payload)))
+        }
+        Layout::Two => {
+            let mut payload = [0; 135];
+            let place = CellPlace {
+                at: mark_at(Layout::Two),
+                slot_bytes: mark_slot_bytes(Layout::Two),
+            };
+            let cell = open_cell(disk, MARK_CELL, place, &mut payload)?;
+            Ok((cell, decode_mark(&payload)))
+        }
+    }
+}
+
 /// Opens the mark cell, and gives the stored mark of this mission, if one is stored. The jumps are the mission's.
 pub fn open_mark<D: Disk>(
     disk: &mut D,
+    layout: Layout,
     mission: PlanHead,
-    jumps: &Jumps,
+    jumps: &Counts,
 ) -> Result<(GatedCell, Option<Mark>), BootFault>
     requires room { STORE_BYTES ≤ (D.state disk.old).meter.size }
     requires only { Only (D.state disk.old).seen (D.state disk.old).images }
     ensures step { Step 2 (D.state disk.old) (D.state disk.new) result }
-    ensures place { IfOk result (λ found. found.0.place ≡ mark_place) }
+    ensures place { IfOk result (λ found. found.0.place ≡ mark_cell layout) }
     ensures calm { IfOk result (λ found. found.0.doubt ≡ false) }
     ensures answers { IsTrue (D.state disk.old).tells → (plan : StoredPlan) → head_of plan ≡ mission → HasJumps plan.items jumps.now →
-        Answers (mark_fault plan (held mark_place (D.state disk.old).seen))
-        (λ found. IsOpened found.0 (D.state disk.old).seen × (plain_marks found.1 ≡ mark_at mission.id (held mark_place (D.state disk.old).seen))) result }
+        Answers (mark_fault layout plan (held (mark_cell layout) (D.state disk.old).seen))
+        (λ found. IsOpened found.0 (D.state disk.old).seen × (plain_marks found.1 ≡ mark_at layout mission.id (held (mark_cell layout) (D.state disk.old).seen))) result }
 {
-    let mut payload = [0; 71];
-    let place = CellPlace {
-        at: MARK_AT,
-        slot_bytes: MARK_SLOT_BYTES,
-    };
-    let cell = open_cell(disk, MARK_CELL, place, &mut payload)?;
+    let (cell, found) = read_mark(disk, layout)?;
     if !cell.has_payload() {
         return Ok((cell, None));
     }
-    let mark = judge_mark(&payload, mission, jumps)?;
+    let mark = judge_mark(found, mission, jumps)?;
     Ok((cell, mark))
 }

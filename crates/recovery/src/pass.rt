@@ -1,24 +1,58 @@
 // A boot: one sync, and then one pass of reads that finds what the store stands for, or what is wrong with it.
-ghost use Rattle.std.specs.Prelude.{◌≡◌, ◌≤◌, ◌+◌, ℕ, [], List, None, IsTrue, IfOk, IfErr};
+ghost use Rattle.dataman_layout.specs.declared.layout.Layout.TheVariants.{Two};
+ghost use Rattle.std.specs.Prelude.{false, ◌≡◌, ◌≤◌, ◌+◌, ℕ, [], List, None, IsTrue, IfOk, IfErr};
 ghost use Rattle.mission_model.specs.declared.limits.TheConstants.{STORE_BYTES};
 ghost use Rattle.mission_model.specs.PlainMark.{PlainMark};
 ghost use Rattle.disk_model.specs.Disk.{Only};
 ghost use Rattle.bank_state.specs.Plans.{Plans};
-ghost use Rattle.bank_state.specs.StandsFor.{IsOf, StandsFor};
+ghost use Rattle.bank_state.specs.StandsFor.{mark_cell, IsOf, StandsFor, StandsIn};
 ghost use Rattle.bank_state.specs.Ledger.{ledger_of, holding_in};
 ghost use Rattle.bank_state.specs.Store.{IsStore};
 ghost use Rattle.bank_state.specs.Gathered.{IsReady};
-ghost use Rattle.recovery.specs.Faults.{fault_in};
+ghost use Rattle.recovery.specs.Faults.{fault_behind, fault_in};
 ghost use Rattle.recovery.specs.Standing.{Tells, TellsBanks, NoFaultExactly, items_of};
-ghost use Rattle.recovery.specs.Found.{reads_for};
+ghost use Rattle.recovery.specs.Found.{AreStates, AllRead, reads_behind, reads_for};
 ghost use Rattle.recovery.specs.Steps.{Step, Keeps, Went, Quietly, Stopped, StoppedBy, IsOfDisk, Answers};
 
 use crate::BootFault;
-use crate::cells::{open_compat, open_mark, open_states};
+use crate::cells::{States, open_compat, open_mark, open_states};
 use crate::plans::read_plans;
 use bank_state::{Banks, Parts};
+use dataman_layout::Layout;
 use disk_model::Disk;
+use gated_cell::GatedCell;
 use mission_model::{BootState, Counts, Mark};
+
+/// What the cells and the banks of a store hold.
+#[derive(Clone, Copy)]
+pub struct Found {
+    /// What the state cells name.
+    pub states: States,
+    /// The cell of the mark.
+    pub mark_cell: GatedCell,
+    /// The stored mark of the mission, if one is stored.
+    pub mark: Option<Mark>,
+}
+
+/// Finds what stands behind the compat cell in this layout, by reads alone.
+fn find_behind<D: Disk>(disk: &mut D, layout: Layout) -> Result<Found, BootFault>
+    requires room { STORE_BYTES ≤ (D.state disk.old).meter.size }
+    requires only { Only (D.state disk.old).seen (D.state disk.old).images }
+    ensures states { IfOk result (λ found. AreStates layout found.states) }
+    ensures place { IfOk result (λ found. found.mark_cell.place ≡ mark_cell layout) }
+    ensures calm { IfOk result (λ found. found.mark_cell.doubt ≡ false) }
+    ensures step { Step (reads_behind result) (D.state disk.old) (D.state disk.new) result }
+    ensures answers { IsTrue (D.state disk.old).tells → Answers (fault_behind layout (D.state disk.old).seen) (λ found. AllRead layout (D.state disk.old).seen found.states found.mark_cell found.mark) result }
+{
+    let states = open_states(disk, layout)?;
+    let jumps = read_plans(disk, layout, &states)?;
+    let (mark_cell, mark) = open_mark(disk, layout, states.mission.head, &jumps)?;
+    Ok(Found {
+        states,
+        mark_cell,
+        mark,
+    })
+}
 
 /// Finds what the store stands for, by reads alone.
 fn find<D: Disk>(disk: &mut D) -> Result<Parts, BootFault>
@@ -30,15 +64,13 @@ fn find<D: Disk>(disk: &mut D) -> Result<Parts, BootFault>
     ensures answers { IsTrue (D.state disk.old).tells → Answers (fault_in (D.state disk.old).seen) (λ _. Unit {0}) result }
 {
     open_compat(disk)?;
-    let states = open_states(disk)?;
-    let jumps = read_plans(disk, &states)?;
-    let (mark_cell, mark) = open_mark(disk, states.mission.head, &jumps)?;
+    let found = find_behind(disk, Layout::Two)?;
     Ok(Parts {
-        mission: states.mission,
-        fence: states.fence,
-        safe: states.safe,
-        mark_cell,
-        mark,
+        mission: found.states.mission,
+        fence: found.states.fence,
+        safe: found.states.safe,
+        mark_cell: found.mark_cell,
+        mark: found.mark,
         doubt: None,
     })
 }
@@ -90,7 +122,7 @@ pub fn boot<D: Disk>(disk: D) -> Result<(Banks<D>, BootState), (BootFault, D)>
     ensures calls { IfOk result (λ up. Quietly 1 (10 + items_of up.1.heads) (D.state disk).meter (D.state up.0.disk).meter) }
 
     ensures first { IfErr result (λ down. IsTrue (D.state disk).tells → StoppedBy (fault_in (D.state disk).seen) down.0) }
-    ensures sound { IfErr result (λ down. IsTrue (D.state disk).tells → (plans : Plans) (mark : PlainMark) → StandsFor (D.state disk).seen plans mark → IsOfDisk down.0) }
+    ensures sound { IfErr result (λ down. IsTrue (D.state disk).tells → (plans : Plans) (mark : PlainMark) → StandsIn Two (D.state disk).seen plans mark → IsOfDisk down.0) }
     ensures back { IfErr result (λ down. Keeps (D.state disk) (D.state down.1)) }
     ensures refused { IfErr result (λ down. Stopped 1 (D.state disk).meter (D.state down.1).meter down.0) }
 {

@@ -64,30 +64,36 @@ fn a_store_is_made_once_and_boots_empty(rt: HostRuntime) -> Result<(), Fail> {
     Ok(())
 }
 
-/// The slots of a new store that are open: one of the version, and three of an empty plan.
-const OPEN_SLOTS: [(usize, [u8; 16]); 4] = [
-    (0, [0xA5, 1, 0, 0, 0, 0, 0, 0, 0, 1, 0, 0, 0, 0, 0, 0]),
-    (32, [0xA5, 1, 0, 0, 0, 0, 0, 0, 0, 0, 0, 0, 0, 0, 0, 0]),
-    (64, [0xA5, 1, 0, 0, 0, 0, 0, 0, 0, 0, 0, 0, 0, 0, 0, 0]),
-    (96, [0xA5, 1, 0, 0, 0, 0, 0, 0, 0, 0, 0, 0, 0, 0, 0, 0]),
-];
+/// The slot of the version, 2, with the first generation.
+const VERSION: [u8; 16] = [0xA5, 1, 0, 0, 0, 0, 0, 0, 0, 2, 0, 0, 0, 0, 0, 0];
+
+/// The slot of an empty plan of id 0 in bank 0, with the first generation.
+const EMPTY: [u8; 16] = [0xA5, 1, 0, 0, 0, 0, 0, 0, 0, 0, 0, 0, 0, 0, 0, 0];
+
+/// Zeros with a slot at some places.
+fn with_slots(slots: [(usize, [u8; 16]); 4]) -> [u8; 400] {
+    let mut bytes = [0; 400];
+    for (at, slot) in slots {
+        if at <= 384 {
+            for k in 0..16 {
+                bytes[at + k] = slot[k];
+            }
+        }
+    }
+    bytes
+}
 
 #[test]
 fn a_new_store_has_its_bytes(rt: HostRuntime) -> Result<(), Fail> {
     let alloc = rt.alloc();
-    let mut wanted = [0; 300];
-    for (at, slot) in OPEN_SLOTS {
-        for k in 0..16 {
-            if at + k < 300 {
-                wanted[at + k] = slot[k];
-            }
-        }
-    }
     let mut disk = MemoryDisk::new(alloc, STORE_BYTES, Vec::new(alloc))?;
-    let mut bytes = [1; 300];
+    let mut bytes = [1; 400];
     assert_eq!(rt; init_store(&mut disk), Ok(()));
     assert_eq!(rt; disk.read_at(0, &mut bytes), Ok(()));
-    assert_eq!(rt; bytes, wanted);
+    assert_eq!(rt; bytes, with_slots([(0, VERSION); 4]));
+    assert_eq!(rt; disk.read_at(65_536, &mut bytes), Ok(()));
+    let cells = with_slots([(0, EMPTY), (32, EMPTY), (64, EMPTY), (64, EMPTY)]);
+    assert_eq!(rt; bytes, cells);
     Ok(())
 }
 
@@ -114,12 +120,12 @@ fn write_store<D: Disk>(disk: &mut D) -> Result<(), BootFault>
 {
     init_store(disk)?;
     disk.write_at(16, &CLOSED)?;
-    disk.write_at(48, &COMMITTED)?;
-    disk.write_at(80, &CLOSED)?;
-    disk.write_at(112, &CLOSED)?;
-    disk.write_at(128, &MARK)?;
-    disk.write_at(208, &CLOSED)?;
-    disk.write_at(24_512, &RECORD)?;
+    disk.write_at(65_552, &COMMITTED)?;
+    disk.write_at(65_584, &CLOSED)?;
+    disk.write_at(65_616, &CLOSED)?;
+    disk.write_at(65_632, &MARK)?;
+    disk.write_at(65_776, &CLOSED)?;
+    disk.write_at(162_048, &RECORD)?;
     Ok(())
 }
 
@@ -151,44 +157,45 @@ fn found_with(
 }
 
 /// A byte of that store that is changed, and the fault that is found then.
-const CHANGES: [(u64, u8, BootFault); 23] = [
+const CHANGES: [(u64, u8, BootFault); 24] = [
     // The compat cell: its gate, twins, the version, and the bytes behind it.
     (0, 0, NotAStore(0)),
     (0, 0x5A, NotAStore(0x5A)),
     (16, 0xA5, BadCell(0)),
-    (9, 2, UnknownVersion(2)),
-    (10, 1, UnknownVersion(257)),
+    (9, 3, UnknownVersion(3)),
+    (9, 0, UnknownVersion(0)),
+    (10, 1, UnknownVersion(258)),
     (13, 1, BadCell(0)),
     // The states: twins, a bank that is none, a count above the limit, no open gate.
-    (33, 2, BadCell(1)),
-    (57, 2, BadCell(1)),
-    (63, 2, BadCell(1)),
-    (64, 0, BadCell(2)),
-    (80, 0xA5, BadCell(2)),
-    (96, 0, BadCell(3)),
-    (112, 0xA5, BadCell(3)),
+    (65_537, 2, BadCell(1)),
+    (65_561, 2, BadCell(1)),
+    (65_567, 8, BadCell(1)),
+    (65_568, 0, BadCell(2)),
+    (65_584, 0xA5, BadCell(2)),
+    (65_600, 0, BadCell(3)),
+    (65_616, 0xA5, BadCell(3)),
     // The record: another id, seq or kind, flags that no record has, and a frame that the check refuses.
-    (24_512, 2, BadItem(Mission, 0)),
-    (24_516, 1, BadItem(Mission, 0)),
-    (24_518, 1, BadItem(Mission, 0)),
-    (24_519, 0x3F, BadItem(Mission, 0)),
-    (24_520, 9, BadItem(Mission, 0)),
+    (162_048, 2, BadItem(Mission, 0)),
+    (162_052, 1, BadItem(Mission, 0)),
+    (162_054, 1, BadItem(Mission, 0)),
+    (162_055, 0x3F, BadItem(Mission, 0)),
+    (162_056, 9, BadItem(Mission, 0)),
     // The mark: twins, the id of a mission to come, an index behind the end, pairs that are no mark's.
-    (208, 0xA5, BadCell(4)),
-    (137, 2, BadCell(4)),
-    (141, 2, BadCell(4)),
-    (143, 1, BadCell(4)),
-    (143, 17, BadCell(4)),
+    (65_776, 0xA5, BadCell(4)),
+    (65_641, 2, BadCell(4)),
+    (65_645, 2, BadCell(4)),
+    (65_647, 1, BadCell(4)),
+    (65_647, 33, BadCell(4)),
 ];
 
 /// Two bytes that are changed, and the first of their faults; at last a mark whose one pair counts no jump.
 const TWO_CHANGES: [((u64, u8), (u64, u8), BootFault); 6] = [
-    ((16, 0xA5), (9, 2), BadCell(0)),
-    ((9, 2), (13, 1), UnknownVersion(2)),
-    ((57, 2), (64, 0), BadCell(1)),
-    ((96, 0), (24_512, 2), BadCell(3)),
-    ((24_512, 2), (141, 2), BadItem(Mission, 0)),
-    ((143, 1), (146, 1), BadCell(4)),
+    ((16, 0xA5), (9, 3), BadCell(0)),
+    ((9, 3), (13, 1), UnknownVersion(3)),
+    ((65_561, 2), (65_568, 0), BadCell(1)),
+    ((65_600, 0), (162_048, 2), BadCell(3)),
+    ((162_048, 2), (65_645, 2), BadItem(Mission, 0)),
+    ((65_647, 1), (65_650, 1), BadCell(4)),
 ];
 
 #[test]
@@ -214,25 +221,25 @@ fn one_byte_makes_each_fault(rt: HostRuntime) -> Result<(), Fail> {
         Ok(told_of(1, 1, 1))
     );
     assert_eq!(rt;
-        found_with(alloc, (137, 0), (137, 0))?,
+        found_with(alloc, (65_641, 0), (65_641, 0))?,
         Ok(told_of(1, 1, 0))
     );
     Ok(())
 }
 
 #[test]
-fn a_new_store_takes_five_calls(rt: HostRuntime) -> Result<(), Fail> {
+fn a_new_store_takes_six_calls(rt: HostRuntime) -> Result<(), Fail> {
     let alloc = rt.alloc();
-    for call in 1..7 {
+    for call in 1..8 {
         let fails = vec![in alloc; (1, call), (1, call + 1)]?;
         let mut disk = MemoryDisk::new(alloc, STORE_BYTES, fails)?;
         disk.arm(None);
-        let wanted = if call < 6 { Err(DiskFailed) } else { Ok(()) };
+        let wanted = if call < 7 { Err(DiskFailed) } else { Ok(()) };
         assert_eq!(rt; init_store(&mut disk), wanted, "{call}");
         // The first byte goes last.
         let mut first = [1];
         assert_eq!(rt; disk.read_at(0, &mut first), Ok(()), "{call}");
-        assert_eq!(rt; first[0], if call < 5 { 0 } else { 0xA5 }, "{call}");
+        assert_eq!(rt; first[0], if call < 6 { 0 } else { 0xA5 }, "{call}");
         // It asked nothing more, so this is the call behind.
         assert_eq!(rt; disk.sync(), Err(DiskFault::Failed), "{call}");
     }

@@ -1,4 +1,4 @@
-use Rattle.std.proofs.Common.{◌≡◌, true, length, drop, sym, ◌∙◌, rules}
+use Rattle.std.proofs.Common.{◌≡◌, true, drop, sym, rules}
 use Rattle.dataman_layout.specs.Fields.{is_zeros}
 use Rattle.dataman_layout.specs.CompatLaws.{compat_bytes-record}
 use Rattle.dataman_layout.proofs.compat.decode_compat.Goals as goal

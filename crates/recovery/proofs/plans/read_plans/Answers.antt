@@ -1,5 +1,5 @@
 use Rattle.std.specs.Prelude.{Ok, Err, ◌≡◌, ◌+◌, ℕ, None, List}
-use Rattle.std.proofs.Common.{◌∙◌}
+use Rattle.std.proofs.Common.{refl, ◌∙◌}
 use Rattle.mission_model.specs.declared.plan.PlanType.TheVariants.{Fence, Safe}
 use Rattle.recovery.specs.Faults.{items_fault}
 use Rattle.recovery.specs.Steps.{Step}
@@ -53,6 +53,6 @@ returns-clause-answers g c = λ told read.
     let first = c.in_ok-jumps.ensures.step in
     let second = c.in_ok-_fence.ensures.step in
     let mission = c.in_ok-jumps.ensures.answers told in
-    let fence = of_first a b first.still.seen first.time.tells (λ (l : List ℕ). items_fault Fence states.fence.bank states.fence.head states.fence.head.count l ≡ None) (λ t. (c.in_ok-_fence.ensures.answers t).0) told in
-    let safe = of_first a d (second.still.seen ∙ first.still.seen) (second.time.tells ∙ first.time.tells) (λ (l : List ℕ). items_fault Safe states.safe.bank states.safe.head states.safe.head.count l ≡ None) (λ t. (c.in_ok-_safe.ensures.answers t).0) told in
-    (plans_none states a.seen read mission.0 fence safe, mission.1)
+    let fence = of_first a b first.still.seen first.time.tells (λ (l : List ℕ). items_fault c.args.layout Fence states.fence.bank states.fence.head states.fence.head.count l ≡ None) (λ t. (c.in_ok-_fence.ensures.answers t).0) told in
+    let safe = of_first a d (second.still.seen ∙ first.still.seen) (second.time.tells ∙ first.time.tells) (λ (l : List ℕ). items_fault c.args.layout Safe states.safe.bank states.safe.head states.safe.head.count l ≡ None) (λ t. (c.in_ok-_safe.ensures.answers t).0) told in
+    (plans_none c.args.layout states a.seen read mission.0 fence safe, mission.1 refl)

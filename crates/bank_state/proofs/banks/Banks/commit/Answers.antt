@@ -1,3 +1,4 @@
+use Rattle.mission_model.specs.PlanCode.{limit_of}
 use Rattle.std.proofs.Common.{◌≡◌, ◌*◌, ◌-◌, ◌^◌, ℕ, IsTrue, Some, length, sym, subst, ap, ◌∙◌, rules}
 use Rattle.std.specs.Prelude.{IfErr}
 use Rattle.mission_model.specs.declared.plan.PlanHead.{PlanHead}
@@ -32,8 +33,8 @@ returns-in-Ok-clause-records g c =
     let e : c.banks_of-banks.result ≡ banks_of parts kind = search rules in
     let spare : c.spare.result ≡ 1 - (banks_of parts kind).bank = search rules in
     let long : length payload ≡ 7 = search rules in
-    let reads = subst (λ (b : ℕ). state_in kind payload ≡ Some (b, head)) spare (c.encode_state-payload.ensures.read kind r.within) in
-    let named = record-state_in kind payload (1 - (banks_of parts kind).bank) head long reads in
+    let reads = subst (λ (b : ℕ). state_in (limit_of kind) payload ≡ Some (b, head)) spare (c.encode_state-payload.ensures.read (limit_of kind) r.within) in
+    let named = record-state_in (limit_of kind) payload (1 - (banks_of parts kind).bank) head long reads in
     let run = subst (λ (b : PlanBanks). Run b.cell.place.at (2 * b.cell.place.slot_bytes) (Swaps b.cell payload old) old new) e c.swap-swapped.ensures.any_moment in
     records parts kind head payload old new so sn r.store r.calm r.newer r.within named r.written r.valid run
 
@@ -53,8 +54,8 @@ returns-in-Ok-clause-any_moment g c =
     let e : c.banks_of-banks.result ≡ banks_of parts kind = search rules in
     let spare : c.spare.result ≡ 1 - (banks_of parts kind).bank = search rules in
     let long : length payload ≡ 7 = search rules in
-    let reads = subst (λ (b : ℕ). state_in kind payload ≡ Some (b, head)) spare (c.encode_state-payload.ensures.read kind r.within) in
-    let named = record-state_in kind payload (1 - (banks_of parts kind).bank) head long reads in
+    let reads = subst (λ (b : ℕ). state_in (limit_of kind) payload ≡ Some (b, head)) spare (c.encode_state-payload.ensures.read (limit_of kind) r.within) in
+    let named = record-state_in (limit_of kind) payload (1 - (banks_of parts kind).bank) head long reads in
     let run = subst (λ (b : PlanBanks). Run b.cell.place.at (2 * b.cell.place.slot_bytes) (Swaps b.cell payload old) old new) e c.swap-swapped.ensures.any_moment in
     moments parts kind head payload old new so sn r.store r.calm r.newer r.within named r.written r.valid run
 
@@ -74,8 +75,8 @@ returns-in-Err-clause-records g c =
     let e : c.banks_of-banks.result ≡ banks_of parts kind = search rules in
     let spare : c.spare.result ≡ 1 - (banks_of parts kind).bank = search rules in
     let long : length payload ≡ 7 = search rules in
-    let reads = subst (λ (b : ℕ). state_in kind payload ≡ Some (b, head)) spare (c.encode_state-payload.ensures.read kind r.within) in
-    let named = record-state_in kind payload (1 - (banks_of parts kind).bank) head long reads in
+    let reads = subst (λ (b : ℕ). state_in (limit_of kind) payload ≡ Some (b, head)) spare (c.encode_state-payload.ensures.read (limit_of kind) r.within) in
+    let named = record-state_in (limit_of kind) payload (1 - (banks_of parts kind).bank) head long reads in
     let run = subst (λ (b : PlanBanks). Run b.cell.place.at (2 * b.cell.place.slot_bytes) (Swaps b.cell payload old) old new) e c.swap-swapped.ensures.any_moment in
     records parts kind head payload old new so sn r.store r.calm r.newer r.within named r.written r.valid run
 
@@ -95,8 +96,8 @@ returns-in-Err-clause-any_moment g c =
     let e : c.banks_of-banks.result ≡ banks_of parts kind = search rules in
     let spare : c.spare.result ≡ 1 - (banks_of parts kind).bank = search rules in
     let long : length payload ≡ 7 = search rules in
-    let reads = subst (λ (b : ℕ). state_in kind payload ≡ Some (b, head)) spare (c.encode_state-payload.ensures.read kind r.within) in
-    let named = record-state_in kind payload (1 - (banks_of parts kind).bank) head long reads in
+    let reads = subst (λ (b : ℕ). state_in (limit_of kind) payload ≡ Some (b, head)) spare (c.encode_state-payload.ensures.read (limit_of kind) r.within) in
+    let named = record-state_in (limit_of kind) payload (1 - (banks_of parts kind).bank) head long reads in
     let run = subst (λ (b : PlanBanks). Run b.cell.place.at (2 * b.cell.place.slot_bytes) (Swaps b.cell payload old) old new) e c.swap-swapped.ensures.any_moment in
     moments parts kind head payload old new so sn r.store r.calm r.newer r.within named r.written r.valid run
 
@@ -116,8 +117,8 @@ returns-in-Ok-clause-store g c =
     let e : c.banks_of-banks.result ≡ banks_of parts kind = search rules in
     let spare : c.spare.result ≡ 1 - (banks_of parts kind).bank = search rules in
     let long : length payload ≡ 7 = search rules in
-    let reads = subst (λ (b : ℕ). state_in kind payload ≡ Some (b, head)) spare (c.encode_state-payload.ensures.read kind r.within) in
-    let named = record-state_in kind payload (1 - (banks_of parts kind).bank) head long reads in
+    let reads = subst (λ (b : ℕ). state_in (limit_of kind) payload ≡ Some (b, head)) spare (c.encode_state-payload.ensures.read (limit_of kind) r.within) in
+    let named = record-state_in (limit_of kind) payload (1 - (banks_of parts kind).bank) head long reads in
     let run = subst (λ (b : PlanBanks). Run b.cell.place.at (2 * b.cell.place.slot_bytes) (Swaps b.cell payload old) old new) e c.swap-swapped.ensures.any_moment in
     let becomes = c.in-Ok.ensures.done ∙ ap (λ (b : PlanBanks). opened b.cell) e in
     let next = subst (λ (b : PlanBanks). IsTrue new.tells → in_force now new ≡ next_with b.cell payload) e c.in-Ok.ensures.next in
@@ -140,8 +141,8 @@ returns-in-Ok-clause-now g c =
     let e : c.banks_of-banks.result ≡ banks_of parts kind = search rules in
     let spare : c.spare.result ≡ 1 - (banks_of parts kind).bank = search rules in
     let long : length payload ≡ 7 = search rules in
-    let reads = subst (λ (b : ℕ). state_in kind payload ≡ Some (b, head)) spare (c.encode_state-payload.ensures.read kind r.within) in
-    let named = record-state_in kind payload (1 - (banks_of parts kind).bank) head long reads in
+    let reads = subst (λ (b : ℕ). state_in (limit_of kind) payload ≡ Some (b, head)) spare (c.encode_state-payload.ensures.read (limit_of kind) r.within) in
+    let named = record-state_in (limit_of kind) payload (1 - (banks_of parts kind).bank) head long reads in
     let run = subst (λ (b : PlanBanks). Run b.cell.place.at (2 * b.cell.place.slot_bytes) (Swaps b.cell payload old) old new) e c.swap-swapped.ensures.any_moment in
     let becomes = c.in-Ok.ensures.done ∙ ap (λ (b : PlanBanks). opened b.cell) e in
     let next = subst (λ (b : PlanBanks). IsTrue new.tells → in_force now new ≡ next_with b.cell payload) e c.in-Ok.ensures.next in
@@ -164,8 +165,8 @@ returns-in-Err-clause-kept g c =
     let e : c.banks_of-banks.result ≡ banks_of parts kind = search rules in
     let spare : c.spare.result ≡ 1 - (banks_of parts kind).bank = search rules in
     let long : length payload ≡ 7 = search rules in
-    let reads = subst (λ (b : ℕ). state_in kind payload ≡ Some (b, head)) spare (c.encode_state-payload.ensures.read kind r.within) in
-    let named = record-state_in kind payload (1 - (banks_of parts kind).bank) head long reads in
+    let reads = subst (λ (b : ℕ). state_in (limit_of kind) payload ≡ Some (b, head)) spare (c.encode_state-payload.ensures.read (limit_of kind) r.within) in
+    let named = record-state_in (limit_of kind) payload (1 - (banks_of parts kind).bank) head long reads in
     let run = subst (λ (b : PlanBanks). Run b.cell.place.at (2 * b.cell.place.slot_bytes) (Swaps b.cell payload old) old new) e c.swap-swapped.ensures.any_moment in
     let left = subst (λ (b : PlanBanks). IfErr c.swap-swapped.result (Leaves b.cell payload old now new)) e c.swap-swapped.ensures.left in
     let refused = subst (λ (b : PlanBanks). IfErr c.swap-swapped.result (NotDone b.cell.generation old.meter new.meter)) e c.swap-swapped.ensures.refused in
@@ -188,8 +189,8 @@ returns-in-Err-clause-err g c =
     let e : c.banks_of-banks.result ≡ banks_of parts kind = search rules in
     let spare : c.spare.result ≡ 1 - (banks_of parts kind).bank = search rules in
     let long : length payload ≡ 7 = search rules in
-    let reads = subst (λ (b : ℕ). state_in kind payload ≡ Some (b, head)) spare (c.encode_state-payload.ensures.read kind r.within) in
-    let named = record-state_in kind payload (1 - (banks_of parts kind).bank) head long reads in
+    let reads = subst (λ (b : ℕ). state_in (limit_of kind) payload ≡ Some (b, head)) spare (c.encode_state-payload.ensures.read (limit_of kind) r.within) in
+    let named = record-state_in (limit_of kind) payload (1 - (banks_of parts kind).bank) head long reads in
     let run = subst (λ (b : PlanBanks). Run b.cell.place.at (2 * b.cell.place.slot_bytes) (Swaps b.cell payload old) old new) e c.swap-swapped.ensures.any_moment in
     let left = subst (λ (b : PlanBanks). IfErr c.swap-swapped.result (Leaves b.cell payload old now new)) e c.swap-swapped.ensures.left in
     subst (λ (p : Parts). IfErr c.swap-swapped.result (LedgerAfter (doubt.Plan kind head) (ledger_of parts) (ledger_of p))) (sym c.keep.ensures) (ledger parts kind head payload old new so sn r.store r.calm r.newer r.within named r.written r.valid run c.swap-swapped.result now left)

@@ -1,3 +1,5 @@
+use Rattle.dataman_layout.specs.Layouts.{most_pairs}
+use Rattle.dataman_layout.specs.declared.layout.Layout.TheVariants.{Two}
 use Rattle.std.proofs.Common.{◌≡◌, length, sym, subst, ap, rules}
 use Rattle.std.specs.Prelude.{IfErr}
 use Rattle.dataman_layout.specs.Mark.{plain_mark}
@@ -23,8 +25,8 @@ returns-in-Ok-clause-records g c =
     let so = s c.args.self.now.disk in
     let sn = s c.swap-swapped.new.disk in
     let r = c.requires in
-    let long : length payload ≡ 71 = search rules in
-    let holds = record-mark_in payload (plain_mark mark) long c.encode_mark.ensures.read in
+    let long : length payload ≡ 135 = search rules in
+    let holds = record-mark_in (most_pairs Two) payload (plain_mark mark) long c.encode_mark.ensures.read in
     let run = c.swap-swapped.ensures.any_moment in
     records parts mark payload old new so sn r.store r.calm holds r.fits run
 
@@ -40,8 +42,8 @@ returns-in-Ok-clause-any_moment g c =
     let so = s c.args.self.now.disk in
     let sn = s c.swap-swapped.new.disk in
     let r = c.requires in
-    let long : length payload ≡ 71 = search rules in
-    let holds = record-mark_in payload (plain_mark mark) long c.encode_mark.ensures.read in
+    let long : length payload ≡ 135 = search rules in
+    let holds = record-mark_in (most_pairs Two) payload (plain_mark mark) long c.encode_mark.ensures.read in
     let run = c.swap-swapped.ensures.any_moment in
     moments parts mark payload old new so sn r.store r.calm holds r.fits run
 
@@ -57,8 +59,8 @@ returns-in-Err-clause-records g c =
     let so = s c.args.self.now.disk in
     let sn = s c.swap-swapped.new.disk in
     let r = c.requires in
-    let long : length payload ≡ 71 = search rules in
-    let holds = record-mark_in payload (plain_mark mark) long c.encode_mark.ensures.read in
+    let long : length payload ≡ 135 = search rules in
+    let holds = record-mark_in (most_pairs Two) payload (plain_mark mark) long c.encode_mark.ensures.read in
     let run = c.swap-swapped.ensures.any_moment in
     records parts mark payload old new so sn r.store r.calm holds r.fits run
 
@@ -74,8 +76,8 @@ returns-in-Err-clause-any_moment g c =
     let so = s c.args.self.now.disk in
     let sn = s c.swap-swapped.new.disk in
     let r = c.requires in
-    let long : length payload ≡ 71 = search rules in
-    let holds = record-mark_in payload (plain_mark mark) long c.encode_mark.ensures.read in
+    let long : length payload ≡ 135 = search rules in
+    let holds = record-mark_in (most_pairs Two) payload (plain_mark mark) long c.encode_mark.ensures.read in
     let run = c.swap-swapped.ensures.any_moment in
     moments parts mark payload old new so sn r.store r.calm holds r.fits run
 
@@ -91,8 +93,8 @@ returns-in-Ok-clause-store g c =
     let so = s c.args.self.now.disk in
     let sn = s c.swap-swapped.new.disk in
     let r = c.requires in
-    let long : length payload ≡ 71 = search rules in
-    let holds = record-mark_in payload (plain_mark mark) long c.encode_mark.ensures.read in
+    let long : length payload ≡ 135 = search rules in
+    let holds = record-mark_in (most_pairs Two) payload (plain_mark mark) long c.encode_mark.ensures.read in
     let run = c.swap-swapped.ensures.any_moment in
     on_ok_of c.swap-swapped.result (subst (λ (p : Parts). IsStore p new) (sym c.take_mark.ensures) (done parts mark payload old new so sn r.store r.calm holds r.fits run now c.in-Ok.ensures.done c.in-Ok.ensures.known c.in-Ok.ensures.next))
 
@@ -108,8 +110,8 @@ returns-in-Ok-clause-now g c =
     let so = s c.args.self.now.disk in
     let sn = s c.swap-swapped.new.disk in
     let r = c.requires in
-    let long : length payload ≡ 71 = search rules in
-    let holds = record-mark_in payload (plain_mark mark) long c.encode_mark.ensures.read in
+    let long : length payload ≡ 135 = search rules in
+    let holds = record-mark_in (most_pairs Two) payload (plain_mark mark) long c.encode_mark.ensures.read in
     let run = c.swap-swapped.ensures.any_moment in
     on_ok_of c.swap-swapped.result (stands_done parts mark payload old new so sn r.store r.calm holds r.fits run now c.in-Ok.ensures.done c.in-Ok.ensures.known c.in-Ok.ensures.next)
 
@@ -125,8 +127,8 @@ returns-in-Err-clause-kept g c =
     let so = s c.args.self.now.disk in
     let sn = s c.swap-swapped.new.disk in
     let r = c.requires in
-    let long : length payload ≡ 71 = search rules in
-    let holds = record-mark_in payload (plain_mark mark) long c.encode_mark.ensures.read in
+    let long : length payload ≡ 135 = search rules in
+    let holds = record-mark_in (most_pairs Two) payload (plain_mark mark) long c.encode_mark.ensures.read in
     let run = c.swap-swapped.ensures.any_moment in
     subst (λ (p : Parts). IfErr c.swap-swapped.result (StoreAfter p new)) (sym c.keep.ensures)
     (kept parts mark payload old new so sn r.store r.calm holds r.fits run c.swap-swapped.result now (λ last. ap g.D.Disk.state (c.swap-swapped.ensures.spent last).1) c.swap-swapped.ensures.refused c.swap-swapped.ensures.left)
@@ -143,7 +145,7 @@ returns-in-Err-clause-err g c =
     let so = s c.args.self.now.disk in
     let sn = s c.swap-swapped.new.disk in
     let r = c.requires in
-    let long : length payload ≡ 71 = search rules in
-    let holds = record-mark_in payload (plain_mark mark) long c.encode_mark.ensures.read in
+    let long : length payload ≡ 135 = search rules in
+    let holds = record-mark_in (most_pairs Two) payload (plain_mark mark) long c.encode_mark.ensures.read in
     let run = c.swap-swapped.ensures.any_moment in
     subst (λ (p : Parts). IfErr c.swap-swapped.result (LedgerAfter (doubt.Mark mark) (ledger_of parts) (ledger_of p))) (sym c.keep.ensures) (ledger parts mark payload old new so sn r.store r.calm holds r.fits run c.swap-swapped.result now c.swap-swapped.ensures.left)
