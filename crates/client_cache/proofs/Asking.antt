@@ -1,11 +1,12 @@
 -- One more seq looked at: what is asked of the board, and what is in flight then.
-use Rattle.std.proofs.Common.{◌≡◌, ℕ, zero, suc, ◌+◌, ◌<◌, ◌≤◌, Bool, true, false, List, [], ◌∷◌, ◌++◌, length, take, refl, ◌∙◌, arith, append_assoc, length-append, is_some, ◌||◌}
+use Rattle.std.proofs.Common.{◌≡◌, ℕ, zero, suc, ◌+◌, ◌<◌, ◌≤◌, Bool, true, false, List, [], ◌∷◌, ◌++◌, length, take, refl, ◌∙◌, arith, append_assoc, is_some, ◌||◌, ap, sym, subst}
 use Rattle.std.specs.Prelude.{slice_set, slice_index_or, if◌then◌else◌}
 use Rattle.std.proofs.lemmas.Grind.{common_steps}
 use Rattle.mission_model.specs.declared.plan.PlanType.{PlanType}
 use Rattle.mission_model.specs.declared.request.Client.{Client}
-use Rattle.request_board.specs.BoardState.{BoardState}
-use Rattle.client_cache.specs.CacheState.{CacheState, known_at, is_in_flight}
+use Rattle.request_board.specs.BoardState.{BoardState, HasClient, outstanding}
+use Rattle.client_cache.specs.CacheState.{CacheState, known_at, is_in_flight, id_of}
+use Rattle.client_cache.specs.Looking.{asking_outstanding}
 use Rattle.client_cache.specs.Wants.{missing, missing_at, reads, asking, flags_with, flying, Asks}
 
 pub reads-append : (client : Client) (kind : PlanType) (id : ℕ) (xs ys : List ℕ) → reads client kind id (xs ++ ys) ≡ reads client kind id xs ++ reads client kind id ys
@@ -72,25 +73,22 @@ take-whole r xs le = grind (arith, common_steps, le)
 
 -- nothing asked
 pub Asks-none : (c : CacheState) (b : BoardState) → Asks c b [] c b
-Asks-none c b = record {
-  cache = refl;
-  board = grind (arith, common_steps);
-  outstanding = omega arith;
-  others = λ other ne. (refl, refl);
-  posted = λ client. refl;
-  clients = λ client has. has;
-}
+Asks-none c b = record { cache = refl; board = grind (arith, common_steps) }
 
 -- some asked, and then some more
 pub Asks-trans : (c : CacheState) (b : BoardState) (xs : List ℕ) (c1 : CacheState) (b1 : BoardState) (ys : List ℕ) (c2 : CacheState) (b2 : BoardState) → Asks c b xs c1 b1 → Asks c1 b1 ys c2 b2 → Asks c b (xs ++ ys) c2 b2
 Asks-trans c b xs c1 b1 ys c2 b2 first next =
-    let p : Asks c b xs (flying c xs) (asking c b xs) = rw (← first.cache, ← first.board) first in
     let q : Asks (flying c xs) (asking c b xs) ys c2 b2 = rw (← first.cache, ← first.board) next in
     record {
       cache = rw (flags_with-append c.in_flight xs ys) q.cache;
-      board = rw (reads-append c.client c.kind c.id xs ys, ← append_assoc b.waiting (reads c.client c.kind c.id xs) (reads c.client c.kind c.id ys)) q.board;
-      outstanding = omega (arith, p.outstanding, q.outstanding, length-append xs ys);
-      others = λ other ne. ((q.others other ne).0 ∙ (p.others other ne).0, (q.others other ne).1 ∙ (p.others other ne).1);
-      posted = λ client. q.posted client ∙ p.posted client;
-      clients = λ client has. q.clients client (p.clients client has);
+      board = rw (reads-append c.client c.kind (id_of c.head) xs ys, ← append_assoc b.waiting (reads c.client c.kind (id_of c.head) xs) (reads c.client c.kind (id_of c.head) ys)) q.board;
     }
+
+-- how many requests are outstanding then
+pub outstanding-asks : (c : CacheState) (b : BoardState) (xs : List ℕ) (c1 : CacheState) (b1 : BoardState) → Asks c b xs c1 b1 → outstanding b1 c.client ≡ outstanding b c.client + length xs
+outstanding-asks c b xs c1 b1 asks = ap (λ (s : BoardState). outstanding s c.client) asks.board ∙ asking_outstanding c b xs
+
+pub clients-asks : (c : CacheState) (b : BoardState) (xs : List ℕ) (c1 : CacheState) (b1 : BoardState) → Asks c b xs c1 b1 → HasClient b c.client → HasClient b1 c1.client
+clients-asks c b xs c1 b1 asks has =
+    let there : HasClient b1 c.client = subst (λ (s : BoardState). HasClient s c.client) (sym asks.board) has in
+    subst (λ (k : Client). HasClient b1 k) (sym (ap (λ (x : CacheState). x.client) asks.cache)) there

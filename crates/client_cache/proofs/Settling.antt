@@ -1,5 +1,5 @@
 -- What stays known or in flight, and that a look finds nothing missing there.
-use Rattle.std.proofs.Common.{◌≡◌, ℕ, zero, suc, ◌+◌, ◌-◌, ◌<◌, ◌≤◌, Bool, true, false, List, [], ◌∷◌, refl, ◌∙◌, arith, is_some, ◌||◌}
+use Rattle.std.proofs.Common.{◌≡◌, ℕ, zero, suc, ◌+◌, ◌-◌, ◌<◌, ◌≤◌, Bool, true, false, List, [], ◌∷◌, Some, refl, ◌∙◌, arith, is_some, ◌||◌}
 use Rattle.std.specs.Prelude.{slice_index_or, slice_set, if◌then◌else◌}
 use Rattle.std.proofs.lemmas.Grind.{common_steps}
 use Rattle.mission_model.specs.declared.plan.Item.{Item}
@@ -36,7 +36,7 @@ Settled-one c seq to is h = λ k ge lt. let e : k ≡ seq = omega (arith, is, ge
 pub is_settled-answered : (c : CacheState) (seq k : ℕ) → k < seq → is_settled c k ≡ true → is_settled (answered_at c seq) k ≡ true
 is_settled-answered c seq k lt h = grind (arith, common_steps, lt, h)
 
-pub is_settled-kept : (c : CacheState) (seq k : ℕ) (item : Item) → in_window c seq ≡ true → is_settled c k ≡ true → is_settled (known_with (answered_at c seq) seq item) k ≡ true
+pub is_settled-kept : (c : CacheState) (seq k : ℕ) (item : Item) → in_window c seq ≡ true → is_settled c k ≡ true → is_settled (known_with (answered_at c seq) seq (Some item)) k ≡ true
 is_settled-kept c seq k item inside h = grind (arith, common_steps, inside, h)
 
 if-settled : (b : Bool) (seq : ℕ) → b ≡ true → (if b then [] else seq ∷ []) ≡ []

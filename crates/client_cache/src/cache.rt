@@ -2,13 +2,17 @@
 //! taken, wherever the window stands then. What a look found known or in flight the next look does not go through
 //! again.
 
-ghost use Rattle.std.specs.Prelude.{◌≡◌, ◌+◌, ◌-◌, ◌^◌, ◌<◌, ◌≤◌, ◌↔◌, length, min, take, IfOk, OnOk, OnErr, IsTrue, true, false, replicate, None, nat_le, slice_index_or, if◌then◌else◌, ℕ};
-ghost use Rattle.client_cache.specs.CacheState.{opened, adopted, look_of, known_at, in_window, window_end, got, keeps, kept};
-ghost use Rattle.client_cache.specs.Wants.{missing, missing_at, wanted, Asks};
+ghost use Rattle.std.specs.Prelude.{◌≡◌, ◌+◌, ◌-◌, ◌^◌, ◌<◌, ◌≤◌, ◌↔◌, ◌∷◌, List, length, min, take, IfOk, OnOk, OnErr, IsTrue, true, false, replicate, None, nat_le, slice_index_or, if◌then◌else◌, ℕ};
+ghost use Rattle.client_cache.specs.CacheState.{CacheState, opened, adopted, look_of, known_at, in_window, window_end, got, keeps, kept, forgotten, keeps_at, has_id, id_of, count_of};
+ghost use Rattle.client_cache.specs.Wants.{missing, missing_at, wanted, looked, Asks};
 ghost use Rattle.client_cache.specs.Settled.{Settled, is_settled};
 ghost use Rattle.client_cache.specs.Moves.{moved};
+ghost use Rattle.client_cache.specs.History.{CacheEvent, CacheCalls, Remembers};
+ghost use Rattle.mission_model.specs.declared.plan.PlanType.{PlanType as KindValue};
+ghost use Rattle.mission_model.specs.declared.request.Client.{Client as ClientValue};
 ghost use Rattle.request_board.specs.BoardState.{HasClient, outstanding, limit};
 
+use crate::flights::Flights;
 use mission_model::{Asked, Client, Item, Look, PlanHead, PlanType, Reply, Request};
 use request_board::Board;
 use std::alloc::{AllocError, Global};
@@ -16,9 +20,6 @@ use std::marker::Model;
 
 #[cfg(test)]
 mod tests;
-
-/// How many seqs there are.
-pub const SEQS: usize = 65_536;
 
 /// How many places on the board a look leaves free.
 const SPARED: u8 = 1;
@@ -28,11 +29,10 @@ const SPARED: u8 = 1;
 pub struct Cache {
     client: Client,
     kind: PlanType,
-    id: u32,
-    count: u16,
+    head: Option<PlanHead>,
     from: u16,
     known: Vec<Option<Item>>,
-    in_flight: Vec<bool>,
+    in_flight: Flights,
     /// The seqs from here on, up to `settled_to`, are known or in flight.
     settled_from: u16,
     settled_to: u16,
@@ -40,15 +40,14 @@ pub struct Cache {
 
 impl Model for Cache {
     ghost use Rattle.std.specs.Prelude.{◌≡◌, ◌<◌, ◌≤◌, length};
-    ghost use Rattle.client_cache.specs.CacheState.{CacheState};
+    ghost use Rattle.client_cache.specs.CacheState.{CacheState, count_of};
     ghost use Rattle.client_cache.specs.Settled.{Settled};
-    ghost use Rattle.client_cache.specs.declared.cache.TheConstants.{SEQS};
 
     ghost Value = { CacheState };
 
-    ghost view = { λ a. record { client = a.client; kind = a.kind; id = a.id; count = a.count; from = a.from; known = a.known.items; in_flight = a.in_flight.items } };
+    ghost view = { λ a. record { client = a.client; kind = a.kind; head = a.head; from = a.from; known = a.known.items; in_flight = a.in_flight } };
 
-    ghost invariant = { λ a. (length a.in_flight.items ≡ SEQS) × (0 < length a.known.items) × (length a.known.items < 65536) × Settled (record { client = a.client; kind = a.kind; id = a.id; count = a.count; from = a.from; known = a.known.items; in_flight = a.in_flight.items }) a.settled_from a.settled_to };
+    ghost invariant = { λ a. (length a.in_flight ≡ count_of a.head) × (0 < length a.known.items) × (length a.known.items < 65536) × Settled (record { client = a.client; kind = a.kind; head = a.head; from = a.from; known = a.known.items; in_flight = a.in_flight }) a.settled_from a.settled_to };
 }
 
 impl Cache {
@@ -65,53 +64,77 @@ impl Cache {
         Ok(Cache {
             client,
             kind,
-            id: 0,
-            count: 0,
+            head: None,
             from: 0,
             known: no_items(alloc, capacity)?,
-            in_flight: no_flags(alloc, SEQS)?,
+            in_flight: Flights::new(alloc)?,
             settled_from: 0,
             settled_to: 0,
         })
     }
 
-    /// The adopted plan's id, 0 before one was adopted.
-    pub fn id(&self) -> u32
-        ensures { result ≡ self.now.id }
+    /// The adopted plan, if one was adopted.
+    pub fn head(&self) -> Option<PlanHead>
+        ensures { result ≡ self.now.head }
     {
-        self.id
+        self.head
     }
 
-    /// The adopted plan's count.
+    /// The adopted plan's count, 0 where none was adopted.
     pub fn count(&self) -> u16
-        ensures { result ≡ self.now.count }
+        ensures { result ≡ count_of self.now.head }
     {
-        self.count
-    }
-
-    /// Adopts a plan. One of another id empties the cache, and the window begins at 0.
-    pub fn adopt(&mut self, head: PlanHead)
-        ensures { self.new ≡ adopted self.old head }
-    {
-        if self.id != head.id {
-            self.id = head.id;
-            self.count = head.count;
-            self.from = 0;
-            self.settled_from = 0;
-            self.settled_to = 0;
-            forget(&mut self.known);
-            clear(&mut self.in_flight);
+        match self.head {
+            Some(head) => head.count,
+            None => 0,
         }
     }
 
-    /// Takes a reply, and tells whether an item was kept.
+    /// What is known of the item at a seq, outside the window nothing. Nothing is asked.
+    pub fn known(&self, seq: u16) -> Option<Item>
+        ensures { result ≡ known_at self.now seq }
+    {
+        if self.covers(seq) {
+            self.known[(seq - self.from) as usize]
+        } else {
+            None
+        }
+    }
+
+    /// Whether a seq is in the window.
+    pub fn covers(&self, seq: u16) -> bool
+        ensures { result ≡ in_window self.now seq }
+    {
+        let end = self.from as usize + self.known.len();
+        self.from <= seq && (seq as usize) < end
+    }
+
+    /// Adopts a plan. One of another id than the adopted plan's empties the cache, and the window begins at 0.
+    pub fn adopt(&mut self, head: PlanHead)
+        ensures { self.new ≡ adopted self.old head }
+    {
+        match self.head {
+            Some(old) if old.id == head.id => {}
+            _ => {
+                self.head = Some(head);
+                self.from = 0;
+                self.settled_from = 0;
+                self.settled_to = 0;
+                clear(&mut self.known);
+                self.in_flight.begin(head.count);
+            }
+        }
+    }
+
+    /// Takes a reply, and tells whether an item was kept. Kept is an item that answers a read of the cache's kind and of
+    /// the adopted plan, at a seq in the window.
     pub fn got(&mut self, asked: &Asked, reply: &Reply) -> bool
         ensures cache { self.new ≡ got self.old asked.now reply.now }
-        ensures keeps { IsTrue result ↔ (keeps self.old asked.now reply.now ≡ true) }
+        ensures keeps { result ≡ keeps self.old asked.now reply.now }
     {
         match *asked {
             Asked::Read { kind, id, seq } => {
-                if kind == self.kind && id == self.id {
+                if kind == self.kind && self.is_of(id) {
                     self.keep(seq, reply)
                 } else {
                     false
@@ -121,13 +144,23 @@ impl Cache {
         }
     }
 
+    /// Whether the adopted plan has this id.
+    fn is_of(&self, id: u32) -> bool
+        ensures { result ≡ has_id self.now.head id }
+    {
+        match self.head {
+            Some(head) => head.id == id,
+            None => false,
+        }
+    }
+
     /// Takes the reply to a read of the cache's kind and adopted id.
     fn keep(&mut self, seq: u16, reply: &Reply) -> bool
         ensures cache { self.new ≡ kept self.old seq reply.now }
-        ensures keeps { IsTrue result ↔ (keeps self.old (Asked.Read self.old.kind self.old.id seq) reply.now ≡ true) }
+        ensures keeps { result ≡ keeps_at self.old seq reply.now }
     {
-        let inside = self.is_within(seq);
-        self.in_flight[seq as usize] = false;
+        let inside = self.covers(seq);
+        self.in_flight.unset(seq);
         match *reply {
             Reply::Item(item) if inside => {
                 self.known[(seq - self.from) as usize] = Some(item);
@@ -140,29 +173,44 @@ impl Cache {
         }
     }
 
-    /// Whether a seq is in the window.
-    fn is_within(&self, seq: u16) -> bool
-        ensures { IsTrue result ↔ (in_window self.now seq ≡ true) }
+    /// Forgets the item at a seq. The next look may ask it again; a read of it that is in flight stays so.
+    pub fn forget(&mut self, seq: u16)
+        ensures { self.new ≡ forgotten self.old seq }
     {
-        let end = self.from as usize + self.known.len();
-        self.from <= seq && (seq as usize) < end
+        if self.covers(seq) {
+            self.known[(seq - self.from) as usize] = None;
+            self.settled_to = self.settled_to.min(seq);
+        }
     }
 
     /// Looks at the item at a seq: what is known of it. What is missing from there on is asked, in rising order, while
     /// the board leaves more than one place free.
     pub fn want(&mut self, board: &mut Board, seq: u16) -> Look
         requires client { HasClient board.old self.old.client }
-        requires count { seq < self.old.count }
+        requires count { seq < count_of self.old.head }
         requires window { in_window self.old seq ≡ true }
         ensures look { result ≡ look_of (known_at self.old seq) }
         ensures asks { Asks self.old board.old (wanted self.old board.old seq) self.new board.new }
     {
-        let look = self.look(seq);
+        let look = look_of(self.known(seq));
         let end = self.end();
         let start = self.settled_end(seq, end);
         let places = self.ask_missing(board, start, end - start);
         self.settle(seq, start + places);
         look
+    }
+
+    /// Looks at the item at any seq. Outside the window nothing is known, and there and behind the plan's end nothing is
+    /// asked.
+    pub fn look_at(&mut self, board: &mut Board, seq: u16) -> Look
+        requires { HasClient board.old self.old.client }
+        ensures look { result ≡ look_of (known_at self.old seq) }
+        ensures asks { Asks self.old board.old (looked self.old board.old seq) self.new board.new }
+    {
+        if seq >= self.count() || !self.covers(seq) {
+            return look_of(self.known(seq));
+        }
+        self.want(board, seq)
     }
 
     /// The seq up to which, but not beyond the end, all from this one on is known or in flight.
@@ -205,7 +253,7 @@ impl Cache {
         requires client { HasClient board.old self.old.client }
         requires from { self.old.from ≤ seq }
         requires window { seq + places ≤ window_end self.old }
-        requires count { seq + places < 2 ^ 16 }
+        requires count { seq + places ≤ count_of self.old.head }
         ensures asks { Asks self.old board.old (take (limit self.old.client - outstanding board.old self.old.client - 1) (missing self.old seq places)) self.new board.new }
         ensures places { result ≤ places }
         ensures settled { Settled self.new seq (seq + result) }
@@ -223,19 +271,30 @@ impl Cache {
     fn ask(&mut self, board: &mut Board, seq: u16)
         requires client { HasClient board.old self.old.client }
         requires room { outstanding board.old self.old.client < limit self.old.client }
+        requires count { seq < count_of self.old.head }
         requires window { in_window self.old seq ≡ true }
         ensures asks { Asks self.old board.old (missing_at self.old seq) self.new board.new }
         ensures settled { is_settled self.new seq ≡ true }
     {
-        let known = self.known[(seq - self.from) as usize].is_some();
-        if !known && !self.in_flight[seq as usize] {
-            let read = Request::Read {
-                kind: self.kind,
-                id: self.id,
-                seq,
-            };
-            let _ = board.ask(self.client, read);
-            self.in_flight[seq as usize] = true;
+        if self.known(seq).is_some() || self.in_flight.has(seq) {
+            return;
+        }
+        let read = Request::Read {
+            kind: self.kind,
+            id: self.id(),
+            seq,
+        };
+        let _ = board.ask(self.client, read);
+        self.in_flight.set(seq);
+    }
+
+    /// The adopted plan's id, 0 where none was adopted.
+    fn id(&self) -> u32
+        ensures { result ≡ id_of self.now.head }
+    {
+        match self.head {
+            Some(head) => head.id,
+            None => 0,
         }
     }
 
@@ -262,22 +321,28 @@ impl Cache {
         Ok(())
     }
 
-    /// What is known at a seq in the window.
-    fn look(&self, seq: u16) -> Look
-        requires { in_window self.now seq ≡ true }
-        ensures { result ≡ look_of (known_at self.now seq) }
-    {
-        match self.known[(seq - self.from) as usize] {
-            Some(item) => Look::Here(item),
-            None => Look::Pending,
-        }
-    }
-
     /// The seq behind the last one that is below both the count and the window's end.
     fn end(&self) -> u16
-        ensures { result ≡ min self.now.count (window_end self.now) }
+        ensures { result ≡ min (count_of self.now.head) (window_end self.now) }
     {
-        (self.count as usize).min(self.from as usize + self.known.len()) as u16
+        (self.count() as usize).min(self.from as usize + self.known.len()) as u16
+    }
+}
+
+/// Whatever calls are made on a new cache, and in whatever order: a look finds exactly the item that the reply to a read of
+/// the adopted plan brought while its seq was in the window, and that stayed since; no more items are known than the
+/// window has places.
+pub fn remembers_what_came()
+    ensures { (client : ClientValue) (kind : KindValue) (capacity : ℕ) (events : List CacheEvent) (last : CacheState) → CacheCalls (opened client kind capacity) events last → Remembers kind capacity events last }
+{}
+
+/// What a look answers.
+fn look_of(known: Option<Item>) -> Look
+    ensures { result ≡ look_of known }
+{
+    match known {
+        Some(item) => Look::Here(item),
+        None => Look::Pending,
     }
 }
 
@@ -292,32 +357,12 @@ fn no_items(alloc: Global, places: u16) -> Result<Vec<Option<Item>>, AllocError>
     Ok(known)
 }
 
-/// A flag for each of so many seqs, with nothing in flight.
-fn no_flags(alloc: Global, seqs: usize) -> Result<Vec<bool>, AllocError>
-    ensures { IfOk result (λ flags. flags.items ≡ replicate seqs false) }
-{
-    let mut flags = Vec::with_capacity(alloc, seqs)?;
-    for _ in 0..seqs {
-        flags.push(false)?;
-    }
-    Ok(flags)
-}
-
 /// Forgets each item.
-fn forget(known: &mut Vec<Option<Item>>)
+fn clear(known: &mut Vec<Option<Item>>)
     ensures { known.new.items ≡ replicate (length known.old.items) None }
 {
     for place in 0..known.len() {
         known[place] = None;
-    }
-}
-
-/// Nothing is in flight.
-fn clear(flags: &mut Vec<bool>)
-    ensures { flags.new.items ≡ replicate (length flags.old.items) false }
-{
-    for seq in 0..flags.len() {
-        flags[seq] = false;
     }
 }
 

@@ -1,4 +1,4 @@
-mod Clients
-mod Effects
 mod Sound
+mod Seats
+mod Keeping
 mod Order

@@ -1,5 +1,5 @@
 -- The law of the board, by induction over its calls.
-use Rattle.std.proofs.Common.{◌≡◌, ◌≢◌, inl, inr, ℕ, ◌+◌, ◌<◌, ◌++◌, cond, length, List, [], ◌∷◌, Option, Some, refl, zero, suc, ap, subst, sym, ◌∙◌, arith, set, length-set, append_assoc, append-nil}
+use Rattle.std.proofs.Common.{◌≡◌, ◌≢◌, inl, inr, ℕ, ◌<◌, ◌++◌, cond, length, List, [], ◌∷◌, Option, Some, refl, zero, suc, ap, subst, sym, ◌∙◌, arith, set, length-set, append_assoc, append-nil}
 use Rattle.std.specs.Prelude.{slice_get}
 use Rattle.std.proofs.lemmas.Bool.Decides.{eqb_tells}
 use Rattle.mission_model.specs.declared.plan.PlanHead.{PlanHead}
@@ -11,18 +11,21 @@ use Rattle.mission_model.specs.declared.request.Asked.{Asked}
 use Rattle.mission_model.specs.declared.request.Asked.TheVariants as about
 use Rattle.mission_model.specs.declared.request.Reply.{Reply}
 use Rattle.mission_model.specs.declared.request.Reply.TheVariants as reply
-use Rattle.request_board.specs.BoardState.{BoardState, HasClient, posted, with_posted, ClientsStay, same_client, outstanding}
-use Rattle.request_board.specs.BoardCalls.{asked_of, in_service, place_of, opened, asked, heads_after, answered, heard}
-use Rattle.request_board.specs.BoardLaw.{Event, Asks, Takes, Posts, Hears, Keeps, Stays, Call, Calls, all_asked, all_taken, all_served, all_posted, all_heard, abouts, own_abouts, replied, listed, head_after, head_by, InOrder}
+use Rattle.mission_model.specs.Shown.{asked_of}
+use Rattle.request_board.specs.Asks.{in_service, listed, abouts, own_abouts, replied}
+use Rattle.mission_model.specs.PlanTypes.{place_of}
+use Rattle.request_board.specs.BoardState.{BoardState, HasClient, posted, with_posted, open_asks, ClientsStay}
+use Rattle.request_board.specs.BoardCalls.{opened, asked, heads_after, answered, heard}
+use Rattle.request_board.specs.BoardLaw.{Event, Asks, Takes, Posts, Hears, Keeps, Stays, Call, Calls, all_asked, all_taken, all_served, all_posted, all_heard, head_after, head_by, InOrder}
 use Rattle.request_board.specs.Kept.{Sound}
-use Rattle.request_board.proofs.Clients.{tell, own_test, other_test}
-use Rattle.request_board.proofs.Effects.{opened_clients, opened_quiet, posted_other, asked_posted, asked_own, asked_others, taken_posted, taken_counts, answered_own, answered_other, answered_clients, answered_counts, heard_clients, heard_own, heard_others, with_waiting, index_posted}
-use Rattle.request_board.proofs.Sound.{sound_opened, sound_asked, sound_taken, sound_answered, sound_heard, served_has}
+use Rattle.request_board.specs.Clients.{tell, own_list, other_list}
+use Rattle.request_board.specs.Frames.{opened_clients, opened_quiet, posted_other, asked_posted, asked_own, asked_others, taken_posted, taken_open, answered_own, answered_other, answered_open, heard_own, heard_others, with_waiting, index_posted, index_open, clients_after}
+use Rattle.request_board.proofs.Sound.{sound_opened, sound_asked, sound_taken, sound_answered, sound_heard}
 
 -- another index changes no client's part of the board
 index_sound : (b : BoardState) (index : Option (ℕ × ℕ)) → Sound b → Sound (record b { index = index })
 index_sound b index sound = record {
-  within = λ client has. omega (arith, ap length (index_posted b index client), sound.within client has);
+  within = λ client has. omega (arith, ap length (index_open b index client), sound.within client has);
   waiting = sound.waiting;
   served = sound.served;
 }
@@ -31,19 +34,10 @@ index_sound b index sound = record {
 sound_after : (event : Event) (old new : BoardState) → Call old event new → Sound old → Sound new
 sound_after (Asks client request) old new call sound = subst Sound (sym call.2) (sound_asked old client request sound call.0 call.1)
 sound_after (Takes client request) old new call sound = subst Sound (sym call.2) (sound_taken old (client, request) new.waiting sound call.0 call.1)
-sound_after (Posts client about reply) old new call sound = subst Sound (sym call.1) (sound_answered old client about reply sound call.0)
+sound_after (Posts client about reply) old new call sound = subst Sound (sym call.2) (sound_answered old client about reply sound call.1)
 sound_after (Hears client about reply) old new call sound = subst Sound (sym call.2) (sound_heard old client (about, reply) (posted new client) sound call.0 call.1)
 sound_after (Keeps index) old new call sound = subst Sound (sym call) (index_sound old index sound)
 sound_after Stays old new call sound = subst Sound (sym call) sound
-
--- and has the clients that it had
-clients_after : (event : Event) (old new : BoardState) → Call old event new → ClientsStay old new
-clients_after (Asks client request) old new call = subst (ClientsStay old) (sym call.2) (λ other has. has)
-clients_after (Takes client request) old new call = subst (ClientsStay old) (sym call.2) (λ other has. has)
-clients_after (Posts client about reply) old new call = subst (ClientsStay old) (sym call.1) (answered_clients old client about reply)
-clients_after (Hears client about reply) old new call = subst (ClientsStay old) (sym call.2) (heard_clients old client (posted new client))
-clients_after (Keeps index) old new call = subst (ClientsStay old) (sym call) (λ other has. has)
-clients_after Stays old new call = subst (ClientsStay old) (sym call) (λ other has. has)
 
 sound_last : (events : List Event) (old last : BoardState) → Calls old events last → Sound old → Sound last
 sound_last [] old last calls sound = subst Sound (sym calls) sound
@@ -66,7 +60,7 @@ queue_order (Asks client request ∷ events) old last (mid, call, calls) =
 queue_order (Takes client request ∷ events) old last (mid, call, calls) =
     ap (λ w. w ++ all_asked events) call.1 ∙ ap (λ w. (client, request) ∷ w) (queue_order events mid last calls)
 queue_order (Posts client about reply ∷ events) old last (mid, call, calls) =
-    let same : mid.waiting ≡ old.waiting = same_queue old mid client (posted old client ++ (about, reply) ∷ []) (ap (λ (b : BoardState). b.waiting) call.1) in
+    let same : mid.waiting ≡ old.waiting = same_queue old mid client (posted old client ++ (about, reply) ∷ []) (ap (λ (b : BoardState). b.waiting) call.2) in
     ap (λ w. w ++ all_asked events) (sym same) ∙ queue_order events mid last calls
 queue_order (Hears client about reply ∷ events) old last (mid, call, calls) =
     let same : mid.waiting ≡ old.waiting = same_queue old mid client (posted mid client) (ap (λ (b : BoardState). b.waiting) call.2) in
@@ -88,21 +82,14 @@ service_order (Takes client request ∷ events) old last (mid, call, calls) =
     let now : served_now mid ≡ (client, asked_of request) ∷ [] = ap served_now call.2 in
     ap (λ l. l ++ (client, asked_of request) ∷ abouts (all_taken events)) idle ∙ ap (λ l. l ++ abouts (all_taken events)) (sym now) ∙ service_order events mid last calls
 service_order (Posts client about reply ∷ events) old last (mid, call, calls) =
-    let before : served_now old ≡ (client, about) ∷ [] = ap listed call.0 in
-    let now : served_now mid ≡ [] = ap served_now call.1 in
+    let before : served_now old ≡ (client, about) ∷ [] = ap listed call.1 in
+    let now : served_now mid ≡ [] = ap served_now call.2 in
     ap (λ l. l ++ abouts (all_taken events)) before ∙ ap (λ l. (client, about) ∷ l) (ap (λ l. l ++ abouts (all_taken events)) (sym now) ∙ service_order events mid last calls)
 service_order (Hears client about reply ∷ events) old last (mid, call, calls) =
     let same : mid.service ≡ old.service = ap (λ (b : BoardState). b.service) call.2 ∙ (with_waiting old client (posted mid client)).1 in
     ap (λ s. listed (in_service s) ++ abouts (all_taken events)) (sym same) ∙ service_order events mid last calls
 service_order (Keeps index ∷ events) old last (mid, call, calls) = ap (λ (b : BoardState). served_now b ++ abouts (all_taken events)) (sym call) ∙ service_order events mid last calls
 service_order (Stays ∷ events) old last (mid, call, calls) = ap (λ (b : BoardState). served_now b ++ abouts (all_taken events)) (sym call) ∙ service_order events mid last calls
-
--- the test on clients decides which of two lists
-own_list : {X : Type 0} (client other : Client) (xs ys : List X) → client ≡ other → cond (same_client client other) xs ys ≡ xs
-own_list client other xs ys same = ap (λ c. cond (same_client client c) xs ys) (sym same) ∙ ap (λ b. cond b xs ys) (own_test client)
-
-other_list : {X : Type 0} (client other : Client) (xs ys : List X) → client ≢ other → cond (same_client client other) xs ys ≡ ys
-other_list client other xs ys apart = ap (λ b. cond b xs ys) (other_test client other apart)
 
 -- a client takes its replies in the order in which they are posted
 reply_order : (client : Client) (events : List Event) (old last : BoardState) → Calls old events last → HasClient old client → posted old client ++ all_posted client events ≡ all_heard client events ++ posted last client
@@ -118,10 +105,10 @@ reply_order client (Posts other about reply ∷ events) old last (mid, call, cal
     let rest : posted mid client ++ more ≡ all_heard client events ++ posted last client = reply_order client events mid last calls (clients_after (Posts other about reply) old mid call client has) in
     elim (tell client other) [
       | inl same ↦
-          let to : posted mid client ≡ posted old client ++ (about, reply) ∷ [] = ap (λ (b : BoardState). posted b client) call.1 ∙ subst (λ c. posted (answered old c about reply) client ≡ posted old client ++ (about, reply) ∷ []) same.1 (answered_own old client about reply has) in
+          let to : posted mid client ≡ posted old client ++ (about, reply) ∷ [] = ap (λ (b : BoardState). posted b client) call.2 ∙ subst (λ c. posted (answered old c about reply) client ≡ posted old client ++ (about, reply) ∷ []) same.1 (answered_own old client about reply has) in
           ap (λ l. posted old client ++ l) (own_list client other ((about, reply) ∷ more) more same.1) ∙ sym (append_assoc (posted old client) ((about, reply) ∷ []) more) ∙ ap (λ l. l ++ more) (sym to) ∙ rest
       | inr apart ↦
-          let to : posted mid client ≡ posted old client = ap (λ (b : BoardState). posted b client) call.1 ∙ answered_other old other about reply client apart.1 in
+          let to : posted mid client ≡ posted old client = ap (λ (b : BoardState). posted b client) call.2 ∙ answered_other old other about reply client apart.1 in
           ap (λ l. posted old client ++ l) (other_list client other ((about, reply) ∷ more) more apart.1) ∙ ap (λ l. l ++ more) (sym to) ∙ rest
     ]
 reply_order client (Hears other about reply ∷ events) old last (mid, call, calls) has =
@@ -157,46 +144,44 @@ own_replies client (Hears other about reply ∷ events) = own_replies client eve
 own_replies client (Keeps index ∷ events) = own_replies client events
 own_replies client (Stays ∷ events) = own_replies client events
 
--- how many requests of the client were let in
-abbrev number_asked : Client → List Event → ℕ
-number_asked client events = length (own_abouts client (abouts (all_asked events)))
-
--- a client's requests that were let in are outstanding until their replies are taken
-all_counted : (client : Client) (events : List Event) (old last : BoardState) → Calls old events last → Sound old → HasClient old client → outstanding old client + number_asked client events ≡ length (all_heard client events) + outstanding last client
-all_counted client [] old last calls sound has = omega (arith, ap (λ (b : BoardState). outstanding b client) calls)
-all_counted client (Asks other request ∷ events) old last (mid, call, calls) sound has =
-    let rest = all_counted client events mid last calls (sound_after (Asks other request) old mid call sound) (clients_after (Asks other request) old mid call client has) in
+-- a client's requests that were let in are those whose reply it took, and then those that are outstanding
+unheard_order : (client : Client) (events : List Event) (old last : BoardState) → Calls old events last → HasClient old client → open_asks old client ++ own_abouts client (abouts (all_asked events)) ≡ replied (all_heard client events) ++ open_asks last client
+unheard_order client [] old last calls has = append-nil (open_asks old client) ∙ ap (λ (b : BoardState). open_asks b client) (sym calls)
+unheard_order client (Asks other request ∷ events) old last (mid, call, calls) has =
     let asks = own_abouts client (abouts (all_asked events)) in
+    let rest : open_asks mid client ++ asks ≡ replied (all_heard client events) ++ open_asks last client = unheard_order client events mid last calls (clients_after (Asks other request) old mid call client has) in
     elim (tell client other) [
       | inl same ↦
-          let more : outstanding mid client ≡ outstanding old client + 1 = ap (λ (b : BoardState). outstanding b client) call.2 ∙ subst (λ c. outstanding (asked old c request) client ≡ outstanding old client + 1) same.1 (asked_own old client request) in
-          omega (arith, rest, more, ap length (own_list client other (asked_of request ∷ asks) asks same.1))
+          let to : open_asks mid client ≡ open_asks old client ++ asked_of request ∷ [] = ap (λ (b : BoardState). open_asks b client) call.2 ∙ subst (λ c. open_asks (asked old c request) client ≡ open_asks old client ++ asked_of request ∷ []) same.1 (asked_own old client request) in
+          ap (λ l. open_asks old client ++ l) (own_list client other (asked_of request ∷ asks) asks same.1) ∙ sym (append_assoc (open_asks old client) (asked_of request ∷ []) asks) ∙ ap (λ l. l ++ asks) (sym to) ∙ rest
       | inr apart ↦
-          let alike : outstanding mid client ≡ outstanding old client = ap (λ (b : BoardState). outstanding b client) call.2 ∙ (asked_others old other request client apart.1).1 in
-          omega (arith, rest, alike, ap length (other_list client other (asked_of request ∷ asks) asks apart.1))
+          let to : open_asks mid client ≡ open_asks old client = ap (λ (b : BoardState). open_asks b client) call.2 ∙ (asked_others old other request client apart.1).1 in
+          ap (λ l. open_asks old client ++ l) (other_list client other (asked_of request ∷ asks) asks apart.1) ∙ ap (λ l. l ++ asks) (sym to) ∙ rest
     ]
-all_counted client (Takes other request ∷ events) old last (mid, call, calls) sound has =
-    let rest = all_counted client events mid last calls (sound_after (Takes other request) old mid call sound) (clients_after (Takes other request) old mid call client has) in
-    omega (arith, rest, ap (λ (b : BoardState). outstanding b client) call.2 ∙ taken_counts old (other, request) mid.waiting call.0 call.1 client)
-all_counted client (Posts other about reply ∷ events) old last (mid, call, calls) sound has =
-    let rest = all_counted client events mid last calls (sound_after (Posts other about reply) old mid call sound) (clients_after (Posts other about reply) old mid call client has) in
-    omega (arith, rest, ap (λ (b : BoardState). outstanding b client) call.1 ∙ answered_counts old other about reply (served_has old other about sound call.0) call.0 client)
-all_counted client (Hears other about reply ∷ events) old last (mid, call, calls) sound has =
-    let rest = all_counted client events mid last calls (sound_after (Hears other about reply) old mid call sound) (clients_after (Hears other about reply) old mid call client has) in
+unheard_order client (Takes other request ∷ events) old last (mid, call, calls) has =
+    let same : open_asks mid client ≡ open_asks old client = ap (λ (b : BoardState). open_asks b client) call.2 ∙ taken_open old (other, request) mid.waiting call.0 call.1 client in
+    ap (λ l. l ++ own_abouts client (abouts (all_asked events))) (sym same) ∙ unheard_order client events mid last calls (clients_after (Takes other request) old mid call client has)
+unheard_order client (Posts other about reply ∷ events) old last (mid, call, calls) has =
+    let same : open_asks mid client ≡ open_asks old client = ap (λ (b : BoardState). open_asks b client) call.2 ∙ answered_open old other about reply call.0 call.1 client in
+    ap (λ l. l ++ own_abouts client (abouts (all_asked events))) (sym same) ∙ unheard_order client events mid last calls (clients_after (Posts other about reply) old mid call client has)
+unheard_order client (Hears other about reply ∷ events) old last (mid, call, calls) has =
+    let asks = own_abouts client (abouts (all_asked events)) in
     let heard_more = all_heard client events in
-    let now : outstanding mid client ≡ outstanding (heard old other (posted mid other)) client = ap (λ (b : BoardState). outstanding b client) call.2 in
+    let rest : open_asks mid client ++ asks ≡ replied heard_more ++ open_asks last client = unheard_order client events mid last calls (clients_after (Hears other about reply) old mid call client has) in
     elim (tell client other) [
       | inl same ↦
-          let less : outstanding (heard old other (posted mid other)) client + 1 ≡ outstanding old client = subst (λ c. outstanding (heard old other (posted mid other)) c + 1 ≡ outstanding old c) (sym same.1) (heard_own old other (about, reply) (posted mid other) call.0 call.1) in
-          omega (arith, rest, now, less, ap length (own_list client other ((about, reply) ∷ heard_more) heard_more same.1))
-      | inr apart ↦ omega (arith, rest, now, (heard_others old other (posted mid other) client apart.1).1, ap length (other_list client other ((about, reply) ∷ heard_more) heard_more apart.1))
+          let here : open_asks old client ≡ about ∷ open_asks (heard old other (posted mid other)) client = subst (λ c. open_asks old c ≡ about ∷ open_asks (heard old other (posted mid other)) c) (sym same.1) (heard_own old other (about, reply) (posted mid other) call.0 call.1) in
+          let from : open_asks old client ≡ about ∷ open_asks mid client = here ∙ ap (λ (b : BoardState). about ∷ open_asks b client) (sym call.2) in
+          ap (λ l. l ++ asks) from ∙ ap (λ l. about ∷ l) rest ∙ ap (λ l. replied l ++ open_asks last client) (sym (own_list client other ((about, reply) ∷ heard_more) heard_more same.1))
+      | inr apart ↦
+          let from : open_asks mid client ≡ open_asks old client = ap (λ (b : BoardState). open_asks b client) call.2 ∙ (heard_others old other (posted mid other) client apart.1).1 in
+          ap (λ l. l ++ asks) (sym from) ∙ rest ∙ ap (λ l. replied l ++ open_asks last client) (sym (other_list client other ((about, reply) ∷ heard_more) heard_more apart.1))
     ]
-all_counted client (Keeps index ∷ events) old last (mid, call, calls) sound has =
-    let rest = all_counted client events mid last calls (sound_after (Keeps index) old mid call sound) (clients_after (Keeps index) old mid call client has) in
-    omega (arith, rest, ap (λ (b : BoardState). outstanding b client) call, ap length (index_posted old index client))
-all_counted client (Stays ∷ events) old last (mid, call, calls) sound has =
-    let rest = all_counted client events mid last calls (sound_after Stays old mid call sound) (clients_after Stays old mid call client has) in
-    omega (arith, rest, ap (λ (b : BoardState). outstanding b client) call)
+unheard_order client (Keeps index ∷ events) old last (mid, call, calls) has =
+    let same : open_asks mid client ≡ open_asks old client = ap (λ (b : BoardState). open_asks b client) call ∙ index_open old index client in
+    ap (λ l. l ++ own_abouts client (abouts (all_asked events))) (sym same) ∙ unheard_order client events mid last calls (clients_after (Keeps index) old mid call client has)
+unheard_order client (Stays ∷ events) old last (mid, call, calls) has =
+    ap (λ (b : BoardState). open_asks b client ++ own_abouts client (abouts (all_asked events))) (sym call) ∙ unheard_order client events mid last calls (clients_after Stays old mid call client has)
 
 get_set_same : {X : Type 0} (xs : List X) (i : ℕ) (x : X) → i < length xs → slice_get (set xs i x) i ≡ Some x
 get_set_same [] i x lt = absurd (omega (arith, lt))
@@ -263,7 +248,7 @@ heads_order kind (Takes client request ∷ events) old last (mid, call, calls) t
     let same : mid.published ≡ old.published = ap (λ (b : BoardState). b.published) call.2 in
     same_heads kind events old mid last same (heads_order kind events mid last calls (ap length same ∙ three))
 heads_order kind (Posts client about reply ∷ events) old last (mid, call, calls) three =
-    let now : mid.published ≡ heads_after old.published about reply = ap (λ (b : BoardState). b.published) call.1 in
+    let now : mid.published ≡ heads_after old.published about reply = ap (λ (b : BoardState). b.published) call.2 in
     heads_order kind events mid last calls (ap length now ∙ three_stay old.published about reply ∙ three)
     ∙ ap (λ heads. head_by kind (slice_get heads (place_of kind)) events) now
     ∙ ap (λ head. head_by kind head events) (head_once kind old.published about reply three)
@@ -288,8 +273,7 @@ in_order links watchers heads events last three calls =
       served = service_order events first last calls;
       heard = λ client among. ap (λ l. l ++ all_posted client events) (sym (quiet client).0) ∙ reply_order client events first last calls (opened_clients links watchers heads client among);
       own = λ client. own_replies client events;
-      within = λ client among.
-          let has : HasClient first client = opened_clients links watchers heads client among in
-          omega (arith, all_counted client events first last calls sound has, (sound_last events first last calls sound).within client (clients_last events first last calls client has));
+      unheard = λ client among. ap (λ l. l ++ own_abouts client (abouts (all_asked events))) (sym (quiet client).1) ∙ unheard_order client events first last calls (opened_clients links watchers heads client among);
+      within = λ client among. (sound_last events first last calls sound).within client (clients_last events first last calls client (opened_clients links watchers heads client among));
       published = λ kind. heads_order kind events first last calls three;
     }

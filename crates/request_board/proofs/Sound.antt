@@ -1,5 +1,5 @@
 -- Each call leaves a sound board sound, and a sound board's queue has room.
-use Rattle.std.proofs.Common.{◌≡◌, ◌≢◌, inl, inr, ℕ, ◌+◌, ◌*◌, ◌<◌, ◌≤◌, ◌++◌, length, List, [], ◌∷◌, Some, None, refl, zero, suc, ap, subst, sym, arith, length-append}
+use Rattle.std.proofs.Common.{◌≡◌, ◌≢◌, inl, inr, ℕ, ◌+◌, ◌*◌, ◌<◌, ◌≤◌, ◌++◌, length, List, [], ◌∷◌, Option, Some, None, refl, zero, suc, ap, subst, sym, ◌∙◌, arith, length-append}
 use Rattle.std.proofs.lemmas.Bool.{cases_eq}
 use Rattle.std.specs.Prelude.{slice_get, drop}
 use Rattle.mission_model.specs.declared.limits.TheConstants.{LINK_ROOM, WATCH_ROOM}
@@ -9,24 +9,65 @@ use Rattle.mission_model.specs.declared.request.Client.TheVariants.{Nav, Link, W
 use Rattle.mission_model.specs.declared.request.Request.{Request}
 use Rattle.mission_model.specs.declared.request.Asked.{Asked}
 use Rattle.mission_model.specs.declared.request.Reply.{Reply}
-use Rattle.request_board.specs.BoardState.{BoardState, IsAmong, HasClient, posted, asks_of, outstanding, limit}
-use Rattle.request_board.specs.BoardCalls.{in_service, opened, asked, taken, answered, heard}
+use Rattle.mission_model.specs.Shown.{asked_of}
+use Rattle.request_board.specs.Asks.{in_service, listed, abouts, own_abouts, replied}
+use Rattle.request_board.specs.BoardState.{BoardState, IsAmong, HasClient, posted, open_asks, outstanding, limit}
+use Rattle.request_board.specs.BoardCalls.{opened, asked, taken, answered, heard}
 use Rattle.request_board.specs.Kept.{AllAmong, ServedAmong, Sound, all_room}
-use Rattle.request_board.proofs.Clients.{tell, own_ask, other_ask}
-use Rattle.request_board.proofs.Effects.{asked_own, asked_others, taken_counts, answered_counts, heard_own, heard_others, opened_quiet, with_waiting, lengths_with, served}
+use Rattle.request_board.specs.Clients.{tell, own_first, other_first, own_abouts-append}
+use Rattle.request_board.specs.Frames.{asked_own, asked_others, taken_open, answered_open, heard_own, heard_others, opened_quiet, with_waiting, lengths_with}
+
+-- who is served, from what is in service
+pub served : (service : Option (Client × Request)) (client : Client) (about : Asked) → in_service service ≡ Some (client, about) → (request : Request) × (service ≡ Some (client, request))
+served None client about is = absurd cc
+served (Some (other, request)) client about is =
+    let pair : ◌≡◌ {A = Client × Asked} (other, asked_of request) (client, about) = cc in
+    (request, ap (λ c. Some (c, request)) (ap (λ p. p.0) pair))
+
+-- one request more, and one less
+pub asked_one : (b : BoardState) (client : Client) (request : Request) → outstanding (asked b client request) client ≡ outstanding b client + 1
+asked_one b client request = ap length (asked_own b client request) ∙ length-append (open_asks b client) (asked_of request ∷ [])
+
+pub heard_one : (b : BoardState) (client : Client) (first : Asked × Reply) (rest : List (Asked × Reply)) → HasClient b client → posted b client ≡ first ∷ rest → outstanding (heard b client rest) client + 1 ≡ outstanding b client
+heard_one b client first rest has is =
+    let before : outstanding b client ≡ suc (outstanding (heard b client rest) client) = ap length (heard_own b client first rest has is) in
+    omega (arith, before)
+
+-- how many of these requests are the client's
+abbrev pub asks_of : Client → List (Client × Request) → ℕ
+asks_of client asks = length (own_abouts client (abouts asks))
+
+own_ask : (client : Client) (request : Request) (xs : List (Client × Request)) → asks_of client ((client, request) ∷ xs) ≡ asks_of client xs + 1
+own_ask client request xs =
+    let one : asks_of client ((client, request) ∷ xs) ≡ suc (asks_of client xs) = ap length (own_first client (asked_of request) (abouts xs)) in
+    omega (arith, one)
+
+other_ask : (other client : Client) (request : Request) (xs : List (Client × Request)) → other ≢ client → asks_of other ((client, request) ∷ xs) ≡ asks_of other xs
+other_ask other client request xs ne = ap length (other_first other client (asked_of request) (abouts xs) ne)
+
+-- what waits is outstanding
+waiting_within : (b : BoardState) (client : Client) → asks_of client b.waiting ≤ outstanding b client
+waiting_within b client =
+    let parts : own_abouts client (listed (in_service b.service) ++ abouts b.waiting) ≡ own_abouts client (listed (in_service b.service)) ++ own_abouts client (abouts b.waiting) = own_abouts-append client (listed (in_service b.service)) (abouts b.waiting) in
+    omega (
+      arith,
+      length-append (replied (posted b client)) (own_abouts client (listed (in_service b.service) ++ abouts b.waiting)),
+      ap length parts,
+      length-append (own_abouts client (listed (in_service b.service))) (own_abouts client (abouts b.waiting)),
+    )
 
 all_among-append : (links watchers : ℕ) (asks : List (Client × Request)) (client : Client) (request : Request) → AllAmong links watchers asks → IsAmong links watchers client → AllAmong links watchers (asks ++ (client, request) ∷ [])
 all_among-append links watchers [] client request all has = (has, tt)
 all_among-append links watchers ((other, before) ∷ asks) client request all has = (all.0, all_among-append links watchers asks client request all.1 has)
 
 pub sound_opened : (links watchers : ℕ) (heads : List PlanHead) → Sound (opened links watchers heads)
-sound_opened links watchers heads = record { within = λ client has. omega (arith, (opened_quiet links watchers heads client).1); waiting = tt; served = tt }
+sound_opened links watchers heads = record { within = λ client has. omega (arith, ap length (opened_quiet links watchers heads client).1); waiting = tt; served = tt }
 
 pub sound_asked : (b : BoardState) (client : Client) (request : Request) → Sound b → HasClient b client → outstanding b client < limit client → Sound (asked b client request)
 sound_asked b client request sound has below = record {
   within = λ other has_other. elim (tell other client) [
-    | inl same ↦ subst (λ c. outstanding (asked b client request) c ≤ limit c) (sym same.1) (omega (arith, asked_own b client request, below))
-    | inr apart ↦ omega (arith, (asked_others b client request other apart.1).1, sound.within other has_other)
+    | inl same ↦ subst (λ c. outstanding (asked b client request) c ≤ limit c) (sym same.1) (omega (arith, asked_one b client request, below))
+    | inr apart ↦ omega (arith, ap length (asked_others b client request other apart.1).1, sound.within other has_other)
   ];
   waiting = all_among-append (length b.link_posted) (length b.watch_posted) b.waiting client request sound.waiting has;
   served = sound.served;
@@ -39,7 +80,7 @@ pub sound_taken : (b : BoardState) (first : Client × Request) (rest : List (Cli
 sound_taken b (client, request) rest sound idle waits =
     let among = first_among b client request rest sound waits in
     record {
-      within = λ other has. omega (arith, taken_counts b (client, request) rest idle waits other, sound.within other has);
+      within = λ other has. omega (arith, ap length (taken_open b (client, request) rest idle waits other), sound.within other has);
       waiting = among.1;
       served = among.0;
     }
@@ -56,7 +97,7 @@ sound_answered b client about reply sound is =
     let lengths = lengths_with b client replies in
     let waits = with_waiting b client replies in
     record {
-      within = λ other has_other. omega (arith, answered_counts b client about reply has is other, sound.within other (rw (← lengths.0) (rw (← lengths.1) has_other)));
+      within = λ other has_other. omega (arith, ap length (answered_open b client about reply has is other), sound.within other (rw (← lengths.0) (rw (← lengths.1) has_other)));
       waiting = rw waits.0 (rw lengths.0 (rw lengths.1 sound.waiting));
       served = tt;
     }
@@ -69,8 +110,8 @@ sound_heard b client first rest sound has is =
       within = λ other has_other.
           let before : outstanding b other ≤ limit other = sound.within other (rw (← lengths.0) (rw (← lengths.1) has_other)) in
           elim (tell other client) [
-            | inl same ↦ subst (λ c. outstanding (heard b client rest) c ≤ limit c) (sym same.1) (omega (arith, heard_own b client first rest has is, sound.within client has))
-            | inr apart ↦ omega (arith, (heard_others b client rest other apart.1).1, before)
+            | inl same ↦ subst (λ c. outstanding (heard b client rest) c ≤ limit c) (sym same.1) (omega (arith, heard_one b client first rest has is, sound.within client has))
+            | inr apart ↦ omega (arith, ap length (heard_others b client rest other apart.1).1, before)
           ];
       waiting = rw waits.0 (rw lengths.0 (rw lengths.1 sound.waiting));
       served = rw waits.1 (rw lengths.0 (rw lengths.1 sound.served));
@@ -145,8 +186,9 @@ waiting_fits b sound = omega (
   arith,
   all_counted (length b.link_posted) (length b.watch_posted) b.waiting sound.waiting,
   sound.within Nav tt,
-  of_kind_most (λ k. Link k) LINK_ROOM (length b.link_posted) b.waiting (λ k lt. omega (arith, sound.within (Link k) lt)),
-  of_kind_most (λ k. Watch k) WATCH_ROOM (length b.watch_posted) b.waiting (λ k lt. omega (arith, sound.within (Watch k) lt)),
+  waiting_within b Nav,
+  of_kind_most (λ k. Link k) LINK_ROOM (length b.link_posted) b.waiting (λ k lt. omega (arith, sound.within (Link k) lt, waiting_within b (Link k))),
+  of_kind_most (λ k. Watch k) WATCH_ROOM (length b.watch_posted) b.waiting (λ k lt. omega (arith, sound.within (Watch k) lt, waiting_within b (Watch k))),
 )
 
 -- a client with room left may ask: the board is sound then, and its queue has a place

@@ -1,34 +1,14 @@
 -- What each call makes of the board.
-use Rattle.std.specs.Prelude.{ℕ, List, [], ◌∷◌, ◌++◌, Option, Some, None, replicate, slice_set}
+use Rattle.std.specs.Prelude.{ℕ, List, [], ◌∷◌, ◌++◌, Some, None, replicate, slice_set}
 use Rattle.mission_model.specs.declared.plan.PlanHead.{PlanHead}
-use Rattle.mission_model.specs.declared.plan.PlanType.{PlanType}
-use Rattle.mission_model.specs.declared.plan.PlanType.TheVariants.{Mission, Fence, Safe}
 use Rattle.mission_model.specs.declared.request.Client.{Client}
 use Rattle.mission_model.specs.declared.request.Request.{Request}
-use Rattle.mission_model.specs.declared.request.Request.TheVariants as request
 use Rattle.mission_model.specs.declared.request.Asked.{Asked}
 use Rattle.mission_model.specs.declared.request.Asked.TheVariants as about
 use Rattle.mission_model.specs.declared.request.Reply.{Reply}
 use Rattle.mission_model.specs.declared.request.Reply.TheVariants.{Done}
+use Rattle.mission_model.specs.PlanTypes.{place_of}
 use Rattle.request_board.specs.BoardState.{BoardState, posted, with_posted}
-
--- the request without the item that it writes
-abbrev pub asked_of : Request → Asked
-asked_of (request.Read kind id seq) = about.Read kind id seq
-asked_of (request.Write kind id seq item) = about.Write kind id seq
-asked_of (request.Commit kind id count) = about.Commit kind id count
-asked_of (request.SetMark mark) = about.SetMark mark
-
--- who is served and what it asked, where a request is in service
-abbrev pub in_service : Option (Client × Request) → Option (Client × Asked)
-in_service None = None
-in_service (Some (client, request)) = Some (client, asked_of request)
-
--- the place of a type's head among the published heads
-abbrev pub place_of : PlanType → ℕ
-place_of Mission = 0
-place_of Fence = 1
-place_of Safe = 2
 
 -- a new board: nothing waits, nothing is in service, nothing is posted, no index is kept
 abbrev pub opened : ℕ → ℕ → List PlanHead → BoardState

@@ -1,5 +1,5 @@
 -- What holds of a board after any calls: order of requests and replies, limits and published heads.
-use Rattle.std.specs.Prelude.{◌≡◌, ℕ, ◌+◌, ◌<◌, ◌≤◌, ◌==◌, List, [], ◌∷◌, ◌++◌, length, Option, Some, None, Result, Ok, Err, slice_get, if◌then◌else◌}
+use Rattle.std.specs.Prelude.{◌≡◌, ℕ, ◌<◌, ◌≤◌, ◌==◌, List, [], ◌∷◌, ◌++◌, Option, Some, None, Result, Ok, Err, slice_get, if◌then◌else◌}
 use Rattle.mission_model.specs.declared.plan.PlanHead.{PlanHead}
 use Rattle.mission_model.specs.declared.plan.PlanType.{PlanType}
 use Rattle.mission_model.specs.declared.request.Client.{Client}
@@ -8,9 +8,11 @@ use Rattle.mission_model.specs.declared.request.Asked.{Asked}
 use Rattle.mission_model.specs.declared.request.Asked.TheVariants.{Commit}
 use Rattle.mission_model.specs.declared.request.Reply.{Reply}
 use Rattle.mission_model.specs.declared.request.Reply.TheVariants.{Done}
+use Rattle.mission_model.specs.PlanTypes.{place_of}
 use Rattle.request_board.specs.declared.board.Full.{Full}
-use Rattle.request_board.specs.BoardState.{BoardState, IsAmong, HasClient, posted, same_client, outstanding, limit}
-use Rattle.request_board.specs.BoardCalls.{asked_of, in_service, place_of, asked, taken, answered, heard}
+use Rattle.request_board.specs.Asks.{same_client, in_service, listed, abouts, own_abouts, replied}
+use Rattle.request_board.specs.BoardState.{BoardState, IsAmong, HasClient, posted, open_asks, outstanding, limit}
+use Rattle.request_board.specs.BoardCalls.{asked, taken, answered, heard}
 
 -- what a call does: a client's request is let in; the worker takes a client's request; it posts a reply to a client; a
 -- client takes a reply; another index is kept, or none; nothing
@@ -26,7 +28,7 @@ pub data Event : Type 0 where
 abbrev pub Call : BoardState → Event → BoardState → Type 0
 Call old (Asks client request) new = HasClient old client × (outstanding old client < limit client) × (new ≡ asked old client request)
 Call old (Takes client request) new = (old.service ≡ None) × (old.waiting ≡ (client, request) ∷ new.waiting) × (new ≡ taken old (client, request) new.waiting)
-Call old (Posts client about reply) new = (in_service old.service ≡ Some (client, about)) × (new ≡ answered old client about reply)
+Call old (Posts client about reply) new = HasClient old client × (in_service old.service ≡ Some (client, about)) × (new ≡ answered old client about reply)
 Call old (Hears client about reply) new = HasClient old client × (posted old client ≡ (about, reply) ∷ posted new client) × (new ≡ heard old client (posted new client))
 Call old (Keeps index) new = new ≡ record old { index = index }
 Call old Stays new = new ≡ old
@@ -79,26 +81,6 @@ all_heard client [] = []
 all_heard client (Hears other about reply ∷ events) = if same_client client other then (about, reply) ∷ all_heard client events else all_heard client events
 all_heard client (event ∷ events) = all_heard client events
 
--- these requests without the items that they write
-abbrev pub abouts : List (Client × Request) → List (Client × Asked)
-abouts [] = []
-abouts ((client, request) ∷ asks) = (client, asked_of request) ∷ abouts asks
-
--- what the client asked of these
-abbrev pub own_abouts : Client → List (Client × Asked) → List Asked
-own_abouts client [] = []
-own_abouts client ((other, about) ∷ asks) = if same_client client other then about ∷ own_abouts client asks else own_abouts client asks
-
--- what these replies are on
-abbrev pub replied : List (Asked × Reply) → List Asked
-replied [] = []
-replied ((about, reply) ∷ replies) = about ∷ replied replies
-
--- none or one
-abbrev pub listed : Option (Client × Asked) → List (Client × Asked)
-listed None = []
-listed (Some ask) = ask ∷ []
-
 -- the head of a type after one reply: a commit of that type that is done gives it
 abbrev pub head_after : PlanType → Option PlanHead → Asked → Reply → Option PlanHead
 head_after kind head (Commit other id count) Done = if place_of other == place_of kind then Some (record { id = id; count = count }) else head
@@ -115,12 +97,14 @@ head_by kind head (event ∷ events) = head_by kind head events
 -- served: each request taken has its reply before the next is taken; the last may still be in service.
 -- heard: the replies that a client took are a beginning of those posted to it; the others are posted still.
 -- own: the k-th reply posted to a client is on the k-th request of it that was taken.
--- within: a client's requests whose reply it has not taken are at most its limit.
+-- unheard: the requests of a client are those whose reply it took, and then those that are outstanding.
+-- within: a client's outstanding requests are at most as many as its limit.
 -- published: the published head of a type is that of its last commit that was done, and else the first one.
 pub record InOrder (links watchers : ℕ) (heads : List PlanHead) (events : List Event) (last : BoardState) : Type 0 where
   pub taken : all_asked events ≡ all_taken events ++ last.waiting
   pub served : abouts (all_taken events) ≡ all_served events ++ listed (in_service last.service)
   pub heard : (client : Client) → IsAmong links watchers client → all_posted client events ≡ all_heard client events ++ posted last client
   pub own : (client : Client) → own_abouts client (all_served events) ≡ replied (all_posted client events)
-  pub within : (client : Client) → IsAmong links watchers client → length (own_abouts client (abouts (all_asked events))) ≤ length (all_heard client events) + limit client
+  pub unheard : (client : Client) → IsAmong links watchers client → own_abouts client (abouts (all_asked events)) ≡ replied (all_heard client events) ++ open_asks last client
+  pub within : (client : Client) → IsAmong links watchers client → outstanding last client ≤ limit client
   pub published : (kind : PlanType) → slice_get last.published (place_of kind) ≡ head_by kind (slice_get heads (place_of kind)) events

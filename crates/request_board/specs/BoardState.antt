@@ -1,5 +1,5 @@
--- What a contract sees of the board, and how a client's requests are counted.
-use Rattle.std.specs.Prelude.{◌≡◌, ◌≢◌, ℕ, ◌+◌, ◌<◌, ◌==◌, Bool, true, false, List, [], ◌∷◌, length, Option, Some, None, slice_index_or, slice_set, if◌then◌else◌}
+-- What a contract sees of the board, and which requests of a client are outstanding.
+use Rattle.std.specs.Prelude.{◌≡◌, ◌≢◌, ℕ, ◌<◌, List, [], ◌++◌, length, Option, slice_index_or, slice_set}
 use Rattle.mission_model.specs.declared.limits.TheConstants.{NAV_ROOM, LINK_ROOM, WATCH_ROOM}
 use Rattle.mission_model.specs.declared.plan.PlanHead.{PlanHead}
 use Rattle.mission_model.specs.declared.request.Client.{Client}
@@ -7,6 +7,7 @@ use Rattle.mission_model.specs.declared.request.Client.TheVariants.{Nav, Link, W
 use Rattle.mission_model.specs.declared.request.Request.{Request}
 use Rattle.mission_model.specs.declared.request.Asked.{Asked}
 use Rattle.mission_model.specs.declared.request.Reply.{Reply}
+use Rattle.request_board.specs.Asks.{in_service, listed, abouts, own_abouts, replied}
 
 -- the requests that wait, first asked first; the one in service; the replies posted to each client, first posted first;
 -- the published heads of mission, fence and safe points; the index that was asked last and not taken, with its plan's id
@@ -41,26 +42,18 @@ with_posted b Nav replies = record b { nav_posted = replies }
 with_posted b (Link number) replies = record b { link_posted = slice_set b.link_posted number replies }
 with_posted b (Watch number) replies = record b { watch_posted = slice_set b.watch_posted number replies }
 
--- the two are one client
-abbrev pub same_client : Client → Client → Bool
-same_client Nav Nav = true
-same_client (Link number) (Link other) = number == other
-same_client (Watch number) (Watch other) = number == other
-same_client client other = false
+-- the requests that have no reply yet, in the order asked: the one in service and those that wait
+abbrev pub unanswered : BoardState → List (Client × Asked)
+unanswered b = listed (in_service b.service) ++ abouts b.waiting
 
--- how many of these requests are the client's
-abbrev pub asks_of : Client → List (Client × Request) → ℕ
-asks_of client [] = 0
-asks_of client ((other, request) ∷ asks) = (if same_client client other then 1 else 0) + asks_of client asks
+-- the client's outstanding requests, in the order asked: those whose reply it has not taken, then its own of those that have
+-- none yet
+abbrev pub open_asks : BoardState → Client → List Asked
+open_asks b client = replied (posted b client) ++ own_abouts client (unanswered b)
 
--- 1 where the request in service is the client's, and else 0
-abbrev pub serving : Client → Option (Client × Request) → ℕ
-serving client None = 0
-serving client (Some (other, request)) = if same_client client other then 1 else 0
-
--- the number of the client's requests whose reply it has not taken
+-- how many requests the client has outstanding
 abbrev pub outstanding : BoardState → Client → ℕ
-outstanding b client = asks_of client b.waiting + serving client b.service + length (posted b client)
+outstanding b client = length (open_asks b client)
 
 -- the most requests that the client may have outstanding
 abbrev pub limit : Client → ℕ
@@ -76,14 +69,14 @@ ClientsStay old new = (client : Client) → HasClient old client → HasClient n
 abbrev pub PostedStays : BoardState → BoardState → Type 0
 PostedStays old new = (client : Client) → posted new client ≡ posted old client
 
--- each client has as many requests outstanding as before
-abbrev pub OutstandingStays : BoardState → BoardState → Type 0
-OutstandingStays old new = (client : Client) → outstanding new client ≡ outstanding old client
+-- each client has the same requests outstanding
+abbrev pub OpenStays : BoardState → BoardState → Type 0
+OpenStays old new = (client : Client) → open_asks new client ≡ open_asks old client
 
--- for each client but this one, the posted replies are the same, and as many requests are outstanding as before
+-- for each client but this one, the posted replies and the outstanding requests are the same
 abbrev pub OthersStay : Client → BoardState → BoardState → Type 0
-OthersStay client old new = (other : Client) → other ≢ client → (posted new other ≡ posted old other) × (outstanding new other ≡ outstanding old other)
+OthersStay client old new = (other : Client) → other ≢ client → (posted new other ≡ posted old other) × (open_asks new other ≡ open_asks old other)
 
 -- nothing is posted to any client, and no client has a request outstanding
 abbrev pub IsQuiet : BoardState → Type 0
-IsQuiet b = (client : Client) → (posted b client ≡ []) × (outstanding b client ≡ 0)
+IsQuiet b = (client : Client) → (posted b client ≡ []) × (open_asks b client ≡ [])

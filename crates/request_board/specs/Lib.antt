@@ -1,4 +1,10 @@
+pub mod Asks
+pub mod Clients
 pub mod BoardState
 pub mod BoardCalls
-pub mod Kept
 pub mod BoardLaw
+pub mod Frames
+pub mod Watching
+pub mod WatchLaw
+pub mod Silence
+pub mod Kept

@@ -5,16 +5,22 @@ ghost use Rattle.std.specs.Prelude.{◌≡◌, ℕ, List, ◌+◌, ◌<◌, ◌�
 ghost use Rattle.mission_model.specs.declared.limits.TheConstants.{MAX_LINKS, MAX_WATCHERS};
 ghost use Rattle.mission_model.specs.declared.request.Client.{Client};
 ghost use Rattle.mission_model.specs.declared.plan.PlanHead.{PlanHead};
-ghost use Rattle.request_board.specs.BoardState.{BoardState, HasClient, posted, outstanding, limit, asks_of, IsAmong, ClientsStay, PostedStays, OutstandingStays, OthersStay, IsQuiet};
-ghost use Rattle.request_board.specs.BoardCalls.{opened, asked, taken, answered, heard, index_kept, in_service, asked_of, place_of, heads_after};
+ghost use Rattle.mission_model.specs.Shown.{asked_of};
+ghost use Rattle.request_board.specs.Asks.{in_service};
+ghost use Rattle.request_board.specs.BoardState.{BoardState, HasClient, posted, open_asks, outstanding, limit, IsAmong, OpenStays};
+ghost use Rattle.request_board.specs.BoardCalls.{opened, asked, taken, answered, heard, index_kept, heads_after};
 ghost use Rattle.request_board.specs.BoardLaw.{Event, Posts, Keeps, Call, Calls, ask_event, take_event, reply_event, InOrder};
+ghost use Rattle.request_board.specs.Kept.{seat_of};
 
 use crate::replies::Replies;
 use circular_buffer::HeapCircularBuffer;
-use mission_model::limits::{LINK_ROOM, NAV_ROOM, WATCH_ROOM};
-use mission_model::{Asked, Client, PlanHead, PlanType, Reply, Request};
+use mission_model::limits::{LINK_ROOM, MAX_LINKS, MAX_WATCHERS, NAV_ROOM, WATCH_ROOM};
+use mission_model::{Asked, Client, PlanHead, Reply, Request};
 use std::alloc::{AllocError, Global};
 use std::marker::Model;
+
+/// How many clients a board may have: the Navigator, the links and the watchers.
+pub const SEATS: usize = 1 + MAX_LINKS as usize + MAX_WATCHERS as usize;
 
 /// The client has as many requests outstanding as it may have.
 #[derive(Clone, Copy, Debug, PartialEq, Eq)]
@@ -28,6 +34,8 @@ pub struct Board {
     nav: Replies,
     links: Vec<Replies>,
     watchers: Vec<Replies>,
+    /// How many requests each client has outstanding, by its seat.
+    counts: [u8; SEATS],
     heads: [PlanHead; 3],
     index: Option<(u32, u16)>,
 }
@@ -56,9 +64,7 @@ impl Board {
     ) -> Result<Board, AllocError>
         requires links { links ≤ MAX_LINKS }
         requires watchers { watchers ≤ MAX_WATCHERS }
-        ensures opened { IfOk result (λ board. board ≡ opened links watchers heads) }
-        ensures clients { IfOk result (λ board. (client : Client) → IsAmong links watchers client → HasClient board client) }
-        ensures quiet { IfOk result (λ board. IsQuiet board) }
+        ensures { IfOk result (λ board. board ≡ opened links watchers heads) }
     {
         let room = NAV_ROOM as usize
             + links as usize * LINK_ROOM as usize
@@ -69,6 +75,7 @@ impl Board {
             nav: Replies::new(alloc)?,
             links: empty_replies(alloc, links)?,
             watchers: empty_replies(alloc, watchers)?,
+            counts: [0; SEATS],
             heads,
             index: None,
         })
@@ -81,12 +88,13 @@ impl Board {
         self.heads
     }
 
-    /// How many more requests the client may ask now.
+    /// How many more requests the client may ask now: its limit less its outstanding requests.
     pub fn room(&self, client: Client) -> u8
         requires { HasClient self.now client }
         ensures { result + outstanding self.now client ≡ limit client }
     {
-        limit_of(client) - self.outstanding(client)
+        let counts = &self.counts;
+        limit_of(client) - counts[seat_of(client)]
     }
 
     /// Asks. The request waits behind all others.
@@ -94,10 +102,7 @@ impl Board {
         requires { HasClient self.old client }
         ensures full { IsErr result ↔ (limit client ≤ outstanding self.old client) }
         ensures ok { OnOk result (self.new ≡ asked self.old client request) }
-        ensures one_more { OnOk result (outstanding self.new client ≡ outstanding self.old client + 1) }
-        ensures posted { PostedStays self.old self.new }
-        ensures others { OthersStay client self.old self.new }
-        ensures clients { ClientsStay self.old self.new }
+        ensures asks { OnOk result (open_asks self.new client ≡ open_asks self.old client ++ asked_of request ∷ []) }
         ensures err { OnErr result (self.new ≡ self.old) }
         ensures call { Call self.old (ask_event client request result) self.new }
     {
@@ -107,6 +112,7 @@ impl Board {
         if self.waiting.try_push_back((client, request)).is_err() {
             return Err(Full);
         }
+        self.counts[seat_of(client)] += 1;
         Ok(())
     }
 
@@ -116,10 +122,8 @@ impl Board {
         ensures none { IfNone result ((self.old.waiting ≡ []) × (self.new ≡ self.old)) }
         ensures some { IfSome result (λ first. (self.old.waiting ≡ first ∷ self.new.waiting) × (self.new ≡ taken self.old first self.new.waiting)) }
         ensures client { IfSome result (λ first. HasClient self.old first.0) }
+        ensures asks { OpenStays self.old self.new }
         ensures call { Call self.old (take_event result) self.new }
-        ensures posted { PostedStays self.old self.new }
-        ensures counts { OutstandingStays self.old self.new }
-        ensures clients { ClientsStay self.old self.new }
     {
         let first = self.waiting.pop_front()?;
         self.service = Some(first);
@@ -130,11 +134,9 @@ impl Board {
     pub fn post(&mut self, client: Client, asked: Asked, reply: Reply)
         requires { in_service self.old.service ≡ Some (client, asked) }
         ensures posts { self.new ≡ answered self.old client asked reply }
+        ensures client { HasClient self.old client }
+        ensures asks { OpenStays self.old self.new }
         ensures call { Call self.old (Posts client asked reply) self.new }
-        ensures own { posted self.new client ≡ posted self.old client ++ (asked, reply) ∷ [] }
-        ensures others { OthersStay client self.old self.new }
-        ensures counts { OutstandingStays self.old self.new }
-        ensures clients { ClientsStay self.old self.new }
     {
         self.service = None;
         self.heads = heads_after(self.heads, asked, reply);
@@ -150,16 +152,16 @@ impl Board {
         requires { HasClient self.old client }
         ensures none { IfNone result ((posted self.old client ≡ []) × (self.new ≡ self.old)) }
         ensures some { IfSome result (λ first. (posted self.old client ≡ first ∷ posted self.new client) × (self.new ≡ heard self.old client (posted self.new client))) }
+        ensures asks { IfSome result (λ first. open_asks self.old client ≡ first.0 ∷ open_asks self.new client) }
         ensures call { Call self.old (reply_event client result) self.new }
-        ensures one_less { IfSome result (λ first. outstanding self.new client + 1 ≡ outstanding self.old client) }
-        ensures others { OthersStay client self.old self.new }
-        ensures clients { ClientsStay self.old self.new }
     {
-        match client {
+        let first = match client {
             Client::Nav => self.nav.take_first(),
             Client::Link(number) => self.links[number as usize].take_first(),
             Client::Watch(number) => self.watchers[number as usize].take_first(),
-        }
+        }?;
+        self.counts[seat_of(client)] -= 1;
+        Some(first)
     }
 
     /// Keeps the index that a link asked the Navigator to make current, in the place of an earlier one.
@@ -173,28 +175,10 @@ impl Board {
     /// Takes the kept index away.
     pub fn take_index(&mut self) -> Option<(u32, u16)>
         ensures kept { result ≡ self.old.index }
-        ensures call { Call self.old (Keeps None) self.new }
         ensures away { self.new ≡ record self.old { index = None } }
+        ensures call { Call self.old (Keeps None) self.new }
     {
         self.index.take()
-    }
-
-    /// The number of the client's requests whose reply it has not taken.
-    fn outstanding(&self, client: Client) -> u8
-        requires { HasClient self.now client }
-        ensures count { result ≡ outstanding self.now client }
-        ensures within { result ≤ limit client }
-    {
-        let served = match self.service {
-            Some((other, _)) if other == client => 1,
-            _ => 0,
-        };
-        let posted = match client {
-            Client::Nav => self.nav.len(),
-            Client::Link(number) => self.links[number as usize].len(),
-            Client::Watch(number) => self.watchers[number as usize].len(),
-        };
-        (waiting_of(&self.waiting, client) + served + posted) as u8
     }
 }
 
@@ -204,18 +188,7 @@ pub fn requests_in_order()
     ensures { (links watchers : ℕ) (heads : List PlanHead) (events : List Event) (last : BoardState) → length heads ≡ 3 → Calls (opened links watchers heads) events last → InOrder links watchers heads events last }
 {}
 
-/// A request without the item that it writes.
-pub fn asked_of(request: &Request) -> Asked
-    ensures { result ≡ asked_of request.now }
-{
-    match *request {
-        Request::Read { kind, id, seq } => Asked::Read { kind, id, seq },
-        Request::Write { kind, id, seq, .. } => Asked::Write { kind, id, seq },
-        Request::Commit { kind, id, count } => Asked::Commit { kind, id, count },
-        Request::SetMark(mark) => Asked::SetMark(mark),
-    }
-}
-
+/// The most requests that the client may have outstanding.
 fn limit_of(client: Client) -> u8
     ensures { result ≡ limit client }
 {
@@ -226,14 +199,16 @@ fn limit_of(client: Client) -> u8
     }
 }
 
-fn place_of(kind: PlanType) -> usize
-    ensures place { result ≡ place_of kind }
-    ensures within { result < 3 }
+/// The client's place among the counts of outstanding requests.
+fn seat_of(client: Client) -> usize
+    requires { IsAmong MAX_LINKS MAX_WATCHERS client }
+    ensures seat { result ≡ seat_of client }
+    ensures within { result < SEATS }
 {
-    match kind {
-        PlanType::Mission => 0,
-        PlanType::Fence => 1,
-        PlanType::Safe => 2,
+    match client {
+        Client::Nav => 0,
+        Client::Link(number) => 1 + number as usize,
+        Client::Watch(number) => 1 + MAX_LINKS as usize + number as usize,
     }
 }
 
@@ -242,22 +217,9 @@ fn heads_after(mut heads: [PlanHead; 3], asked: Asked, reply: Reply) -> [PlanHea
     ensures { result ≡ heads_after heads asked reply }
 {
     if let (Asked::Commit { kind, id, count }, Reply::Done) = (asked, reply) {
-        heads[place_of(kind)] = PlanHead { id, count };
+        heads[kind.place()] = PlanHead { id, count };
     }
     heads
-}
-
-/// How many of the requests that wait are the client's.
-fn waiting_of(waiting: &HeapCircularBuffer<(Client, Request)>, client: Client) -> usize
-    ensures { result ≡ asks_of client waiting.now.items }
-{
-    let mut count = 0;
-    for ask in waiting {
-        if ask.0 == client {
-            count += 1;
-        }
-    }
-    count
 }
 
 fn empty_replies(alloc: Global, clients: u8) -> Result<Vec<Replies>, AllocError>

@@ -29,6 +29,7 @@ impl Model for Replies {
 }
 
 impl Replies {
+    /// No replies.
     pub fn new(alloc: Global) -> Result<Replies, AllocError>
         ensures { IfOk result (λ replies. replies ≡ []) }
     {
@@ -37,12 +38,7 @@ impl Replies {
         })
     }
 
-    pub fn len(&self) -> usize
-        ensures { result ≡ length self.now }
-    {
-        self.ring.len()
-    }
-
+    /// Posts a reply behind the others.
     pub fn push(&mut self, asked: Asked, reply: Reply)
         requires { length self.old < NAV_ROOM }
         ensures { self.new ≡ self.old ++ (asked, reply) ∷ [] }
@@ -50,6 +46,7 @@ impl Replies {
         self.ring.push_back((asked, reply));
     }
 
+    /// Takes the first reply away.
     pub fn take_first(&mut self) -> Option<(Asked, Reply)>
         ensures none { IfNone result ((self.old ≡ []) × (self.new ≡ [])) }
         ensures some { IfSome result (λ first. self.old ≡ first ∷ self.new) }

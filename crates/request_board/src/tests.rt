@@ -1,10 +1,10 @@
-//! The board up to each limit, and the index and the heads that it keeps.
-ghost use Rattle.std.specs.Prelude.{◌≡◌, None};
-ghost use Rattle.mission_model.specs.declared.request.Client.TheVariants.{Link};
+//! The board up to each limit, the index and the heads that it keeps, and the watcher that reads nothing.
+ghost use Rattle.std.specs.Prelude.{◌≡◌, None, pos, replicate};
+ghost use Rattle.mission_model.specs.declared.request.Client.TheVariants.{Link, Watch};
 ghost use Rattle.request_board.specs.BoardState.{HasClient, ClientsStay};
 
 use super::*;
-use mission_model::{Asked, Client, PlanHead, PlanType, Reply, Request};
+use mission_model::{Asked, Client, PlanHead, PlanType, Reply, Request, asked_of};
 use std::test::*;
 
 /// Who makes a call.
@@ -13,6 +13,7 @@ enum Who {
     Nav,
     First,
     Second,
+    Watcher,
 }
 
 /// A call, each request being a read of one seq.
@@ -50,10 +51,12 @@ fn seq_of(asked: Asked) -> u16 {
 }
 
 /// Makes the call.
+#[tactic(auto, using(crate::specs::Frames::clients_after))]
 fn make(board: &mut Board, who: Who, call: Call) -> Came
     requires idle { board.old.service ≡ None }
     requires first { HasClient board.old (Link 0) }
     requires second { HasClient board.old (Link 1) }
+    requires watcher { HasClient board.old (Watch 0) }
     ensures idle { board.new.service ≡ None }
     ensures clients { ClientsStay board.old board.new }
 {
@@ -61,6 +64,7 @@ fn make(board: &mut Board, who: Who, call: Call) -> Came
         Who::Nav => Client::Nav,
         Who::First => Client::Link(0),
         Who::Second => Client::Link(1),
+        Who::Watcher => Client::Watch(0),
     };
     match call {
         Call::Ask(seq) => match board.ask(client, read(seq)) {
@@ -75,6 +79,7 @@ fn make(board: &mut Board, who: Who, call: Call) -> Came
     }
 }
 
+#[tactic(auto, using(crate::specs::Frames::clients_after))]
 fn serve(board: &mut Board, reply: Reply) -> Came
     requires { board.old.service ≡ None }
     ensures idle { board.new.service ≡ None }
@@ -93,8 +98,8 @@ fn serve(board: &mut Board, reply: Reply) -> Came
 const NO_PLANS: [PlanHead; 3] = [PlanHead { id: 0, count: 0 }; 3];
 
 #[test]
-fn two_links_and_the_navigator_up_to_each_limit(rt: HostRuntime) -> Result<(), Fail> {
-    let mut board = Board::new(rt.alloc(), 2, 0, NO_PLANS)?;
+fn clients_up_to_each_limit(rt: HostRuntime) -> Result<(), Fail> {
+    let mut board = Board::new(rt.alloc(), 2, 1, NO_PLANS)?;
     let rows = [
         (Who::First, Call::TakeReply, Came::Nothing(1)),
         (Who::Nav, Call::Serve(Reply::Done), Came::Nothing(0)),
@@ -137,6 +142,12 @@ fn two_links_and_the_navigator_up_to_each_limit(rt: HostRuntime) -> Result<(), F
         (Who::Nav, Call::TakeReply, Came::Told(0, Reply::Stale(9), 1)),
         (Who::Nav, Call::TakeReply, Came::Told(1, Reply::Done, 2)),
         (Who::Nav, Call::TakeReply, Came::Nothing(2)),
+        (Who::Watcher, Call::Ask(300), Came::In(3)),
+        (Who::Watcher, Call::Ask(301), Came::In(2)),
+        (Who::Watcher, Call::Ask(302), Came::In(1)),
+        (Who::Watcher, Call::Ask(303), Came::In(0)),
+        (Who::Watcher, Call::Ask(304), Came::Full(0)),
+        (Who::Watcher, Call::TakeReply, Came::Nothing(0)),
     ];
     for (who, call, want) in rows {
         assert_eq!(rt; make(&mut board, who, call), want);
@@ -175,4 +186,21 @@ fn the_last_index_is_taken_once(rt: HostRuntime) -> Result<(), Fail> {
     assert_eq!(rt; board.take_index(), Some((7, 4)));
     assert_eq!(rt; board.take_index(), None);
     Ok(())
+}
+
+#[test]
+fn the_watcher_that_reads_nothing_ends_at_once(rt: HostRuntime) -> Result<(), Fail> {
+    let mut watcher = NoWatch;
+    let out = begin(&mut watcher, 1);
+    assert!(rt; out.read.is_none());
+    assert!(rt; !out.more);
+    assert_eq!(rt; out.note.code, 0);
+    Ok(())
+}
+
+/// A watcher begins an input of this code, with no plan published.
+fn begin<W: Watcher>(watcher: &mut W, code: u16) -> WatchOut
+    ensures { W.works watcher.old (record { code = code; a = pos 0; b = pos 0 }) (replicate 3 (record { id = 0; count = 0 })) ≡ (result, watcher.new) }
+{
+    watcher.work(&WatchInput { code, a: 0, b: 0 }, NO_PLANS)
 }

@@ -2,19 +2,13 @@
 use Rattle.std.specs.Prelude.{ℕ, ◌+◌, ◌<◌, Bool, List, Option, Some, None, slice_index_or, slice_set, nat_lt, map}
 use Rattle.mission_model.specs.declared.plan.PlanHead.{PlanHead}
 use Rattle.mission_model.specs.declared.plan.PlanType.{PlanType}
-use Rattle.mission_model.specs.declared.plan.PlanType.TheVariants.{Mission, Fence, Safe}
+pub use Rattle.mission_model.specs.PlanTypes.{place_of}
 
 -- the link whose grant is out; the last id of each type: the one that a link took last, and before any the one in force when
 -- the boot began
 pub record TransferState : Type 0 where
   pub holder : Option ℕ
   pub ids : List ℕ
-
--- the place of a type among the ids
-abbrev pub place_of : PlanType → ℕ
-place_of Mission = 0
-place_of Fence = 1
-place_of Safe = 2
 
 -- the last id of a type
 abbrev pub last_id : TransferState → PlanType → ℕ

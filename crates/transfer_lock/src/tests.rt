@@ -24,10 +24,7 @@ fn holder_against(transfer: &mut Transfer, link: u8) -> Option<u8>
     ensures { transfer.new ≡ transfer.old }
 {
     match transfer.try_begin(link) {
-        Ok(second) => {
-            second.discard();
-            None
-        }
+        Ok(_) => None,
         Err(busy) => Some(busy.holder),
     }
 }

@@ -7,7 +7,9 @@ ghost use Rattle.transfer_lock.specs.TransferState.{opened, begun, finished, id_
 use mission_model::{PlanHead, PlanType};
 use std::marker::Model;
 
-/// The right of one link to bring plans. It cannot be dropped: `Transfer::finish` takes it back.
+/// The right of one link to bring plans. `Transfer::finish` takes it back; one that is let go with its link at the end of a
+/// boot is never given back.
+#[derive(Drop)]
 pub struct Grant {
     link: u8,
 }
@@ -18,14 +20,6 @@ impl Model for Grant {
     ghost Value = { ℕ };
 
     ghost view = { λ a. a.link };
-}
-
-impl Grant {
-    /// Ends a grant whose transfer ends with the boot. The transfer does not learn of it: a link that goes on uses
-    /// `Transfer::finish`.
-    pub fn discard(self) {
-        let Grant { link: _ } = self;
-    }
 }
 
 /// Another transfer goes on.

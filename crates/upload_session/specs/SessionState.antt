@@ -4,12 +4,12 @@ use Rattle.mission_model.specs.declared.plan.PlanType.{PlanType}
 use Rattle.mission_model.specs.declared.plan.PlanType.TheVariants.{Mission, Fence, Safe}
 use Rattle.mission_model.specs.declared.plan.Item.{Item}
 use Rattle.mission_model.specs.declared.request.Client.TheVariants.{Link}
-use Rattle.mission_model.specs.declared.request.Reply.{Reply}
-use Rattle.mission_model.specs.declared.request.Reply.TheVariants as reply
+use Rattle.mission_model.specs.declared.request.Asked.{Asked}
+use Rattle.mission_model.specs.declared.request.Asked.TheVariants as about
 use Rattle.mission_model.specs.declared.message.Answer.{Answer}
 use Rattle.mission_model.specs.PlanCode.{limit_of}
 use Rattle.mission_model.specs.PlanCheck.{Checked, HasRoom}
-use Rattle.request_board.specs.BoardState.{BoardState, HasClient, outstanding, OthersStay, PostedStays, ClientsStay}
+use Rattle.request_board.specs.BoardState.{BoardState, HasClient, open_asks, OthersStay, PostedStays, ClientsStay}
 use Rattle.transfer_lock.specs.TransferState.{TransferState, HasId, finished}
 use Rattle.upload_session.specs.declared.session.Draft.{Draft}
 use Rattle.upload_session.specs.declared.session.Stage.{Stage}
@@ -78,19 +78,17 @@ IsReady (stage.Receiving draft) = Unit {0}
 IsReady (stage.Writing draft) = ⊥
 IsReady (stage.Committing next) = ⊥
 
--- the requests of the session that are outstanding
-abbrev pub requests_of : Stage → ℕ
-requests_of stage.Free = 0
-requests_of (stage.Receiving draft) = 0
-requests_of (stage.Writing draft) = 1
-requests_of (stage.Committing next) = 1
+-- the session waits for the reply to this request: the write of an item of its upload, or a commit
+abbrev pub Awaits : Stage → Asked → Type 0
+Awaits (stage.Writing draft) (about.Write kind id seq) = (kind ≡ draft.kind) × (id ≡ draft.id)
+Awaits (stage.Committing next) (about.Commit kind id count) = Unit {0}
+Awaits other asked = ⊥
 
--- the session waits for the reply to its request
-abbrev pub Waits : Stage → Type 0
-Waits stage.Free = ⊥
-Waits (stage.Receiving draft) = ⊥
-Waits (stage.Writing draft) = Unit {0}
-Waits (stage.Committing next) = Unit {0}
+-- these are the requests of the session that are outstanding: the one that it waits for, or none
+abbrev pub AwaitsOnly : Stage → List Asked → Type 0
+AwaitsOnly at [] = IsReady at
+AwaitsOnly at (asked ∷ []) = Awaits at asked
+AwaitsOnly at (first ∷ second ∷ rest) = ⊥
 
 -- it waits for the reply to a commit
 abbrev pub IsCommitting : Stage → Type 0
@@ -98,13 +96,6 @@ IsCommitting stage.Free = ⊥
 IsCommitting (stage.Receiving draft) = ⊥
 IsCommitting (stage.Writing draft) = ⊥
 IsCommitting (stage.Committing next) = Unit {0}
-
--- a reply that a write or a commit may have while the power is on
-abbrev pub IsServed : Reply → Type 0
-IsServed reply.Done = Unit {0}
-IsServed reply.DiskFailed = Unit {0}
-IsServed (reply.Spent generation) = Unit {0}
-IsServed other = ⊥
 
 -- this link's grant is out exactly where its session is not free
 abbrev pub IsHolder : Stage → ℕ → Option ℕ → Type 0
@@ -136,10 +127,9 @@ given_back (stage.Receiving draft) t = finished t
 given_back (stage.Writing draft) t = finished t
 given_back (stage.Committing next) t = finished t
 
--- of this link so many requests are outstanding, and the requests and replies of all other clients are as they were; nothing
--- but the queue of requests and the kept index changes
-pub record BoardKeeps (number requests : ℕ) (b b' : BoardState) : Type 0 where
-  pub outstanding : outstanding b' (Link number) ≡ requests
+-- the requests and replies of all clients but this link are as they were; nothing but the queue of requests and the kept
+-- index changes
+pub record BoardKeeps (number : ℕ) (b b' : BoardState) : Type 0 where
   pub others : OthersStay (Link number) b b'
   pub posted : PostedStays b b'
   pub clients : ClientsStay b b'
@@ -151,19 +141,20 @@ pub record SessionFits (s : SessionState) (t : TransferState) (b : BoardState) :
   pub grant : GrantFits s t
   pub ids : HaveIds t (types_left s.stage)
   pub client : HasClient b (Link s.link)
-  pub outstanding : outstanding b (Link s.link) ≡ requests_of s.stage
+  pub asks : AwaitsOnly s.stage (open_asks b (Link s.link))
 
 -- what a call of a session keeps.
 -- number: it is the same link's; grant: it fits the transfer; ids: those that a clearing will take are left.
 -- held: a transfer that another link holds stays as it is; no_other: no other link gets the grant.
--- board: the request that the session waits for is the only one of its link, and other clients are as they were.
+-- asks: the request that the session waits for is the only one of its link; board: other clients are as they were.
 pub record Keeps (s : SessionState) (t : TransferState) (b : BoardState) (s' : SessionState) (t' : TransferState) (b' : BoardState) : Type 0 where
   pub number : s'.link ≡ s.link
   pub grant : GrantFits s' t'
   pub ids : HaveIds t' (types_left s'.stage)
   pub held : (other : ℕ) → other ≢ s.link → t.holder ≡ Some other → t' ≡ t
   pub no_other : (other : ℕ) → other ≢ s.link → t'.holder ≡ Some other → t.holder ≡ Some other
-  pub board : BoardKeeps s.link (requests_of s'.stage) b b'
+  pub asks : AwaitsOnly s'.stage (open_asks b' (Link s.link))
+  pub board : BoardKeeps s.link b b'
 
 -- a stage in which a session holds the grant; where it waits for an item, its check has room for one
 abbrev pub IsBusy : Stage → Type 0

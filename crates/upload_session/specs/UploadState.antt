@@ -1,8 +1,8 @@
 -- Where a link is with the plans that it brings, as its messages and replies leave it.
-use Rattle.std.specs.Prelude.{ℕ, ◌==◌, List, [], ◌∷◌, ◌++◌, Option, Some, None, if◌then◌else◌}
+use Rattle.std.specs.Prelude.{ℕ, List, [], ◌∷◌, ◌++◌}
 use Rattle.mission_model.specs.declared.plan.PlanType.{PlanType}
-use Rattle.mission_model.specs.declared.plan.PlanType.TheVariants.{Mission, Fence, Safe}
 use Rattle.mission_model.specs.declared.plan.Item.{Item}
+pub use Rattle.mission_model.specs.PlanTypes.{type_of, types_named}
 
 -- the plan that a link brings: its type, its new id, the count that it announced, and the items that were heard and not refused
 pub record Upload : Type 0 where
@@ -22,16 +22,3 @@ pub data UploadState : Type 0 where
   Receiving : Upload → UploadState
   Writing : Upload → UploadState
   Committing : List PlanType → UploadState
-
--- the type with this number in a message, if any has it
-abbrev pub type_of : ℕ → Option PlanType
-type_of kind = if kind == 0 then Some Mission else (if kind == 1 then Some Fence else (if kind == 2 then Some Safe else None))
-
--- none or one
-abbrev pub listed : Option PlanType → List PlanType
-listed None = []
-listed (Some kind) = kind ∷ []
-
--- the types that a message to clear names, in order
-abbrev pub types_named : ℕ → List PlanType
-types_named kind = if kind == 255 then Mission ∷ Fence ∷ Safe ∷ [] else listed (type_of kind)

@@ -1,13 +1,16 @@
 //! A link's session. All that it keeps of an upload is fixed in size: what the Count named, a check of the items, and the
 //! grant of the transfer, which it gives back at each end of an upload or a clearing.
 
-ghost use Rattle.std.specs.Prelude.{◌≡◌, ◌≢◌, ◌↔◌, ℕ, List, [], None, Some, IsTrue, length};
+ghost use Rattle.std.specs.Prelude.{◌≡◌, ◌≢◌, ◌↔◌, ℕ, List, [], ◌∷◌, None, Some, IsTrue, length};
+ghost use Rattle.mission_model.specs.declared.request.Asked.TheVariants as about;
 ghost use Rattle.mission_model.specs.declared.request.Client.TheVariants as client;
+ghost use Rattle.mission_model.specs.Replies.{CanHear};
+ghost use Rattle.mission_model.specs.Shown.{asked_of};
 ghost use Rattle.mission_model.specs.declared.plan.Item.{Item};
-ghost use Rattle.request_board.specs.BoardState.{BoardState, HasClient, outstanding};
+ghost use Rattle.request_board.specs.BoardState.{BoardState, HasClient, OpenStays, open_asks};
 ghost use Rattle.request_board.specs.BoardCalls.{asked};
 
-use crate::types::{have_ids, type_after, type_of, types_named};
+use crate::types::{have_ids, types_named};
 use mission_model::{
     AckCode, Answer, Asked, Client, Item, Message, PlanCheck, PlanType, Reply, Request, limit_of,
 };
@@ -34,7 +37,8 @@ pub enum Stage {
     Committing(Option<PlanType>),
 }
 
-/// The session of one link. Its grant cannot be dropped, and so neither can it: at the end of a boot `discard` takes it.
+/// The session of one link. The grant that it may hold ends with it.
+#[derive(Drop)]
 pub struct Session {
     link: u8,
     grant: Option<Grant>,
@@ -57,7 +61,7 @@ impl Session {
     ghost use Rattle.transfer_lock.specs.TransferState.{TransferState};
     ghost use Rattle.upload_session.specs.UploadState.{type_of, types_named};
     ghost use Rattle.upload_session.specs.SessionLaw.{message_law, reply_law, count_law, clear_law, item_law, current_law, cancel_law};
-    ghost use Rattle.upload_session.specs.SessionState.{GrantFits, HaveIds, types_left, types_from, IsReady, IsBusy, IsCommitting, Waits, IsServed, DraftHeard, Heard, link_of, Obeys, Keeps, given_back};
+    ghost use Rattle.upload_session.specs.SessionState.{GrantFits, HaveIds, types_left, types_from, IsReady, IsBusy, IsCommitting, Awaits, DraftHeard, Heard, link_of, Obeys, Keeps, given_back};
 
     /// The session of a link at the beginning of a boot.
     pub fn new(link: u8) -> Session
@@ -89,7 +93,7 @@ impl Session {
         requires ready { IsReady self.old.stage }
         requires grant { GrantFits self.old transfer.old }
         requires client { HasClient board.old (client.Link self.old.link) }
-        requires outstanding { outstanding board.old (client.Link self.old.link) ≡ 0 }
+        requires asks { open_asks board.old (client.Link self.old.link) ≡ [] }
         ensures obeys { (heard : List Item) → Heard self.old.stage heard → Obeys (message_law self.old.link (link_of self.old.stage heard) message.now transfer.old board.old) result self.new transfer.new board.new }
         ensures keeps { Keeps self.old transfer.old board.old self.new transfer.new board.new }
         ensures accepted { (heard : List Item) → Heard self.old.stage heard → result ≢ Answer.Ack AckCode.Accepted }
@@ -114,17 +118,17 @@ impl Session {
     /// knows it. Only here is a plan accepted: once its commit is done.
     pub fn on_reply(
         &mut self,
-        _asked: &Asked,
+        asked: &Asked,
         reply: &Reply,
         transfer: &mut Transfer,
         board: &mut Board,
     ) -> Answer
-        requires waits { Waits self.old.stage }
-        requires served { IsServed reply.now }
+        requires awaits { Awaits self.old.stage asked.now }
+        requires hears { CanHear asked.now reply.now }
         requires ids { HaveIds transfer.old (types_left self.old.stage) }
         requires grant { GrantFits self.old transfer.old }
         requires client { HasClient board.old (client.Link self.old.link) }
-        requires outstanding { outstanding board.old (client.Link self.old.link) ≡ 0 }
+        requires asks { open_asks board.old (client.Link self.old.link) ≡ [] }
         ensures obeys { (heard : List Item) → Heard self.old.stage heard → Obeys (reply_law self.old.link (link_of self.old.stage heard) reply.now transfer.old board.old) result self.new transfer.new board.new }
         ensures keeps { Keeps self.old transfer.old board.old self.new transfer.new board.new }
         ensures accepted { result ≡ Answer.Ack AckCode.Accepted → IsCommitting self.old.stage × (reply.now ≡ Reply.Done) }
@@ -138,18 +142,6 @@ impl Session {
             Stage::Writing(draft) => self.written(draft, board),
             Stage::Committing(next) => self.committed(next, transfer, board),
             Stage::Free | Stage::Receiving(_) => unreachable!(),
-        }
-    }
-
-    /// Ends the session with its boot, and with it the grant that it may hold.
-    pub fn discard(self) {
-        let Session {
-            link: _,
-            grant,
-            stage: _,
-        } = self;
-        if let Some(grant) = grant {
-            grant.discard();
         }
     }
 
@@ -173,10 +165,7 @@ impl Session {
         ensures { self.new ≡ record self.old { stage = stage } }
     {
         self.stage = stage;
-        // A free session holds no grant, so there is none to let go.
-        if let Some(old) = self.grant.replace(grant) {
-            old.discard();
-        }
+        self.grant = Some(grant);
     }
 
     /// Answers a Count, once no transfer of this link is left.
@@ -190,13 +179,13 @@ impl Session {
         requires free { self.old.stage ≡ Stage.Free }
         requires grant { GrantFits self.old transfer.old }
         requires client { HasClient board.old (client.Link self.old.link) }
-        requires outstanding { outstanding board.old (client.Link self.old.link) ≡ 0 }
+        requires asks { open_asks board.old (client.Link self.old.link) ≡ [] }
         ensures obeys { Obeys (count_law self.old.link (type_of kind) count transfer.old board.old) result self.new transfer.new board.new }
         ensures keeps { Keeps self.old transfer.old board.old self.new transfer.new board.new }
         ensures accepted { result ≢ Answer.Ack AckCode.Accepted }
         ensures no_error { result ≢ Answer.Ack AckCode.Error }
     {
-        let Some(kind) = type_of(kind) else {
+        let Some(kind) = PlanType::of_number(kind) else {
             return Answer::Ack(AckCode::Unsupported);
         };
         let Ok(grant) = transfer.try_begin(self.link) else {
@@ -233,7 +222,7 @@ impl Session {
         requires free { self.old.stage ≡ Stage.Free }
         requires grant { GrantFits self.old transfer.old }
         requires client { HasClient board.old (client.Link self.old.link) }
-        requires outstanding { outstanding board.old (client.Link self.old.link) ≡ 0 }
+        requires asks { open_asks board.old (client.Link self.old.link) ≡ [] }
         ensures obeys { Obeys (clear_law self.old.link (types_named kind) transfer.old board.old) result self.new transfer.new board.new }
         ensures keeps { Keeps self.old transfer.old board.old self.new transfer.new board.new }
         ensures accepted { result ≢ Answer.Ack AckCode.Accepted }
@@ -269,7 +258,7 @@ impl Session {
         requires ready { IsReady self.old.stage }
         requires grant { GrantFits self.old transfer.old }
         requires client { HasClient board.old (client.Link self.old.link) }
-        requires outstanding { outstanding board.old (client.Link self.old.link) ≡ 0 }
+        requires asks { open_asks board.old (client.Link self.old.link) ≡ [] }
         ensures obeys { (heard : List Item) → Heard self.old.stage heard → Obeys (item_law self.old.link (link_of self.old.stage heard) seq item.now transfer.old board.old) result self.new transfer.new board.new }
         ensures keeps { Keeps self.old transfer.old board.old self.new transfer.new board.new }
         ensures accepted { (heard : List Item) → Heard self.old.stage heard → result ≢ Answer.Ack AckCode.Accepted }
@@ -295,7 +284,7 @@ impl Session {
         requires ready { IsReady self.old.stage }
         requires grant { GrantFits self.old transfer.old }
         ensures obeys { (b : BoardState) (heard : List Item) → Heard self.old.stage heard → Obeys (cancel_law (link_of self.old.stage heard) transfer.old b) result self.new transfer.new b }
-        ensures keeps { (b : BoardState) → outstanding b (client.Link self.old.link) ≡ 0 → Keeps self.old transfer.old b self.new transfer.new b }
+        ensures keeps { (b : BoardState) → open_asks b (client.Link self.old.link) ≡ [] → Keeps self.old transfer.old b self.new transfer.new b }
         ensures accepted { result ≢ Answer.Ack AckCode.Accepted }
         ensures no_error { result ≢ Answer.Ack AckCode.Error }
     {
@@ -310,7 +299,7 @@ impl Session {
     fn written(&mut self, draft: Draft, board: &mut Board) -> Answer
         requires writing { self.old.stage ≡ Stage.Writing draft }
         requires client { HasClient board.old (client.Link self.old.link) }
-        requires outstanding { outstanding board.old (client.Link self.old.link) ≡ 0 }
+        requires asks { open_asks board.old (client.Link self.old.link) ≡ [] }
         ensures obeys { (t : TransferState) (heard : List Item) → DraftHeard draft heard → Obeys (reply_law self.old.link (link_of (Stage.Writing draft) heard) Reply.Done t board.old) result self.new t board.new }
         ensures keeps { (t : TransferState) → GrantFits self.old t → Keeps self.old t board.old self.new t board.new }
         ensures accepted { result ≢ Answer.Ack AckCode.Accepted }
@@ -335,7 +324,7 @@ impl Session {
         requires grant { GrantFits self.old transfer.old }
         requires ids { HaveIds transfer.old (types_from next) }
         requires client { HasClient board.old (client.Link self.old.link) }
-        requires outstanding { outstanding board.old (client.Link self.old.link) ≡ 0 }
+        requires asks { open_asks board.old (client.Link self.old.link) ≡ [] }
         ensures obeys { (heard : List Item) → Obeys (reply_law self.old.link (link_of (Stage.Committing next) heard) Reply.Done transfer.old board.old) result self.new transfer.new board.new }
         ensures keeps { Keeps self.old transfer.old board.old self.new transfer.new board.new }
         ensures no_error { result ≢ Answer.Ack AckCode.Error }
@@ -347,7 +336,7 @@ impl Session {
         let Some(id) = transfer.take_id(kind) else {
             unreachable!()
         };
-        self.stage = Stage::Committing(type_after(kind));
+        self.stage = Stage::Committing(kind.after());
         commit(self.link, kind, id, 0, board)
     }
 }
@@ -359,7 +348,8 @@ ghost use Rattle.upload_session.specs.SessionState.{BoardKeeps, Heard, IsReady, 
 /// Answers a SetCurrent.
 fn set_current(seq: u16, board: &mut Board) -> Answer
     ensures obeys { (number : ℕ) (stage : Stage) (heard : List Item) (t : TransferState) → IsReady stage → Heard stage heard → Obeys (current_law (link_of stage heard) seq t board.old) result (record { link = number; stage = stage }) t board.new }
-    ensures keeps { (number requests : ℕ) → outstanding board.old (client.Link number) ≡ requests → BoardKeeps number requests board.old board.new }
+    ensures asks { OpenStays board.old board.new }
+    ensures keeps { (number : ℕ) → BoardKeeps number board.old board.new }
     ensures accepted { result ≢ Answer.Ack AckCode.Accepted }
     ensures no_error { result ≢ Answer.Ack AckCode.Error }
 {
@@ -375,9 +365,10 @@ fn set_current(seq: u16, board: &mut Board) -> Answer
 /// Asks the worker, with whom this link has no other request.
 fn ask(link: u8, request: Request, board: &mut Board)
     requires client { HasClient board.old (client.Link link) }
-    requires outstanding { outstanding board.old (client.Link link) ≡ 0 }
+    requires asks { open_asks board.old (client.Link link) ≡ [] }
     ensures asked { board.new ≡ asked board.old (client.Link link) request }
-    ensures keeps { BoardKeeps link 1 board.old board.new }
+    ensures asks { open_asks board.new (client.Link link) ≡ asked_of request ∷ [] }
+    ensures keeps { BoardKeeps link board.old board.new }
 {
     let _ = board.ask(Client::Link(link), request);
 }
@@ -385,10 +376,11 @@ fn ask(link: u8, request: Request, board: &mut Board)
 /// Asks the worker to write an item.
 fn write(link: u8, kind: PlanType, id: u32, seq: u16, item: &Item, board: &mut Board) -> Answer
     requires client { HasClient board.old (client.Link link) }
-    requires outstanding { outstanding board.old (client.Link link) ≡ 0 }
+    requires asks { open_asks board.old (client.Link link) ≡ [] }
     ensures answer { result ≡ Answer.Writes kind id seq item.now }
     ensures asked { board.new ≡ asked board.old (client.Link link) (Request.Write kind id seq item.now) }
-    ensures keeps { BoardKeeps link 1 board.old board.new }
+    ensures asks { open_asks board.new (client.Link link) ≡ about.Write kind id seq ∷ [] }
+    ensures keeps { BoardKeeps link board.old board.new }
 {
     let item = *item;
     ask(
@@ -412,10 +404,11 @@ fn write(link: u8, kind: PlanType, id: u32, seq: u16, item: &Item, board: &mut B
 /// Asks the worker to commit a plan.
 fn commit(link: u8, kind: PlanType, id: u32, count: u16, board: &mut Board) -> Answer
     requires client { HasClient board.old (client.Link link) }
-    requires outstanding { outstanding board.old (client.Link link) ≡ 0 }
+    requires asks { open_asks board.old (client.Link link) ≡ [] }
     ensures answer { result ≡ Answer.Commits kind id count }
     ensures asked { board.new ≡ asked board.old (client.Link link) (Request.Commit kind id count) }
-    ensures keeps { BoardKeeps link 1 board.old board.new }
+    ensures asks { open_asks board.new (client.Link link) ≡ about.Commit kind id count ∷ [] }
+    ensures keeps { BoardKeeps link board.old board.new }
 {
     ask(link, Request::Commit { kind, id, count }, board);
     Answer::Commits { kind, id, count }

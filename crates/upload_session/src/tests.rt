@@ -1,8 +1,12 @@
 //! The answers of docs/FORMATS.md, "Answers of a link", told by two links over one transfer.
-ghost use Rattle.std.specs.Prelude.{◌≡◌, ◌≢◌, ◌+◌, ℕ, None, IfNone, IfSome};
+ghost use Rattle.std.specs.Prelude.{◌≡◌, ◌≢◌, ◌∷◌, ℕ, None, IfNone, IfSome};
 ghost use Rattle.mission_model.specs.declared.request.Client.TheVariants as client;
-ghost use Rattle.request_board.specs.BoardState.{HasClient, ClientsStay, outstanding};
-ghost use Rattle.upload_session.specs.SessionState.{SessionState, SessionFits, IsServed};
+ghost use Rattle.request_board.specs.BoardState.{HasClient, ClientsStay, open_asks};
+ghost use Rattle.mission_model.specs.declared.plan.PlanType.{PlanType};
+ghost use Rattle.mission_model.specs.declared.request.Asked.TheVariants as about;
+ghost use Rattle.mission_model.specs.Replies.{CanHear};
+ghost use Rattle.upload_session.specs.declared.session.Stage.{Stage};
+ghost use Rattle.upload_session.specs.SessionState.{SessionState, SessionFits, Awaits};
 
 use super::*;
 use Event::*;
@@ -10,8 +14,8 @@ use Who::*;
 use mission_model::AckCode::*;
 use mission_model::Answer::{self, *};
 use mission_model::PlanType::{Fence, Mission, Safe};
-use mission_model::{Asked, Client, Item, Message, Param, PlanHead, Reply};
-use request_board::{Board, asked_of};
+use mission_model::{Asked, Client, Item, Message, Param, PlanHead, Reply, asked_of};
+use request_board::Board;
 use std::alloc::{AllocError, Global};
 use std::test::*;
 use transfer_lock::Transfer;
@@ -43,9 +47,9 @@ fn serve(board: &mut Board, link: u8, reply: Reply) -> Option<Asked>
     requires client { HasClient board.old (client.Link link) }
     ensures idle { board.new.service ≡ None }
     ensures clients { ClientsStay board.old board.new }
-    ensures none { IfNone result (outstanding board.new (client.Link link) ≡ outstanding board.old (client.Link link)) }
-    ensures some { IfSome result (λ _. outstanding board.new (client.Link link) + 1 ≡ outstanding board.old (client.Link link)) }
-    ensures others { (other : ℕ) → other ≢ link → outstanding board.new (client.Link other) ≡ outstanding board.old (client.Link other) }
+    ensures none { IfNone result (open_asks board.new (client.Link link) ≡ open_asks board.old (client.Link link)) }
+    ensures some { IfSome result (λ asked. open_asks board.old (client.Link link) ≡ asked ∷ open_asks board.new (client.Link link)) }
+    ensures others { (other : ℕ) → other ≢ link → open_asks board.new (client.Link other) ≡ open_asks board.old (client.Link other) }
 {
     if let Some((client, request)) = board.take_next() {
         board.post(client, asked_of(&request), reply);
@@ -76,6 +80,22 @@ fn say(
     session.handle(&message, transfer, board)
 }
 
+/// The reply, or a failure where a write cannot have it.
+fn fitting(asked: &Asked, reply: Reply) -> Reply
+    requires served { (kind : PlanType) (id count : ℕ) → CanHear (about.Commit kind id count) reply }
+    ensures { (at : Stage) → Awaits at asked.now → CanHear asked.now result }
+{
+    match *asked {
+        Asked::Write { .. } => match reply {
+            Reply::Done => Reply::Done,
+            _ => Reply::DiskFailed,
+        },
+        Asked::Commit { .. } => reply,
+        Asked::Read { .. } => reply,
+        Asked::SetMark(_) => reply,
+    }
+}
+
 /// The worker serves the session's request, where it has one, and the session hears the reply.
 fn hear(
     session: &mut Session,
@@ -87,7 +107,7 @@ fn hear(
     requires link { session.old.link ≡ link }
     requires idle { board.old.service ≡ None }
     requires fits { SessionFits session.old transfer.old board.old }
-    requires reply { IsServed reply }
+    requires served { (kind : PlanType) (id count : ℕ) → CanHear (about.Commit kind id count) reply }
     ensures link { session.new.link ≡ link }
     ensures idle { board.new.service ≡ None }
     ensures fits { SessionFits session.new transfer.new board.new }
@@ -97,7 +117,10 @@ fn hear(
         return Answer::Nothing;
     }
     match serve(board, link, reply) {
-        Some(asked) => session.on_reply(&asked, &reply, transfer, board),
+        Some(asked) => {
+            let reply = fitting(&asked, reply);
+            session.on_reply(&asked, &reply, transfer, board)
+        }
         None => Answer::Nothing,
     }
 }
@@ -182,8 +205,6 @@ fn first_difference(
             difference = Some((row, answer));
         }
     }
-    first.discard();
-    second.discard();
     Ok(difference)
 }
 
@@ -211,12 +232,12 @@ static OUT_OF_PLACE: [Row; 18] = [
     (First, Clear(254), Ack(Unsupported)),
     (First, Current(1), CurrentIs(1)),
     (First, Current(2), Ack(InvalidSequence)),
-    (First, Count(0, 501), Ack(NoSpace)),
+    (First, Count(0, 2001), Ack(NoSpace)),
     (First, Count(1, 65), Ack(NoSpace)),
     (First, Count(2, 1), Ack(NoSpace)),
     (First, Clear(2), Ack(NoSpace)),
     (First, Clear(255), Ack(NoSpace)),
-    (First, Count(0, 500), RequestInt(0)),
+    (First, Count(0, 2000), RequestInt(0)),
     (First, Current(1), CurrentIs(1)),
     (First, Cancel, Ack(OperationCancelled)),
     (First, Sends(0, WAYPOINT), Ack(InvalidSequence)),
@@ -234,7 +255,7 @@ fn messages_out_of_place(rt: HostRuntime) -> Result<(), Fail> {
 static TWO_UPLOADS: [Row; 36] = [
     (First, Count(0, 2), RequestInt(0)),
     (Second, Count(0, 1), Ack(Denied)),
-    (Second, Count(0, 501), Ack(Denied)),
+    (Second, Count(0, 2001), Ack(Denied)),
     (Second, Count(3, 1), Ack(Unsupported)),
     (Second, Clear(1), Ack(Denied)),
     (Second, Sends(0, WAYPOINT), Ack(InvalidSequence)),
@@ -535,16 +556,16 @@ fn a_refused_item_ends_the_transfer(rt: HostRuntime) -> Result<(), Fail> {
 }
 
 #[test]
-fn a_seventeenth_jump_has_no_space(rt: HostRuntime) -> Result<(), Fail> {
+fn a_thirty_third_jump_has_no_space(rt: HostRuntime) -> Result<(), Fail> {
     let jump = Item {
         command: 177,
         frame: 2,
-        p1: Param::Milli(17_000),
+        p1: Param::Milli(33_000),
         ..WAYPOINT
     };
     let mut rows = Vec::new(rt.alloc());
-    rows.push((First, Count(0, 18), RequestInt(0)))?;
-    for seq in 0..16 {
+    rows.push((First, Count(0, 34), RequestInt(0)))?;
+    for seq in 0..32 {
         let written = Writes {
             kind: Mission,
             id: 8,
@@ -554,7 +575,7 @@ fn a_seventeenth_jump_has_no_space(rt: HostRuntime) -> Result<(), Fail> {
         rows.push((First, Sends(seq, jump), written))?;
         rows.push((First, Done, RequestInt(seq + 1)))?;
     }
-    rows.push((First, Sends(16, jump), Ack(NoSpace)))?;
+    rows.push((First, Sends(32, jump), Ack(NoSpace)))?;
     rows.push((Second, Count(0, 1), RequestInt(0)))?;
     assert_eq!(rt; first_difference(rt.alloc(), FREE_IDS, &rows)?, None);
     Ok(())

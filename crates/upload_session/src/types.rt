@@ -1,38 +1,12 @@
 //! The plan types that a message names.
 
 ghost use Rattle.std.specs.Prelude.{◌≡◌, [], ◌∷◌, MatchOption};
-ghost use Rattle.upload_session.specs.UploadState.{type_of, types_named};
+ghost use Rattle.upload_session.specs.UploadState.{types_named};
 ghost use Rattle.upload_session.specs.SessionLaw.{have_ids};
-ghost use Rattle.upload_session.specs.SessionState.{types_from, types_after};
+ghost use Rattle.upload_session.specs.SessionState.{types_from};
 
-use mission_model::PlanType;
+use mission_model::{ALL_TYPES, PlanType};
 use transfer_lock::Transfer;
-
-/// MAV_MISSION_TYPE_ALL.
-const ALL_TYPES: u8 = 255;
-
-/// The type with this number.
-pub fn type_of(kind: u8) -> Option<PlanType>
-    ensures { result ≡ type_of kind }
-{
-    match kind {
-        0 => Some(PlanType::Mission),
-        1 => Some(PlanType::Fence),
-        2 => Some(PlanType::Safe),
-        _ => None,
-    }
-}
-
-/// The type after this one.
-pub fn type_after(kind: PlanType) -> Option<PlanType>
-    ensures { types_from result ≡ types_after kind }
-{
-    match kind {
-        PlanType::Mission => Some(PlanType::Fence),
-        PlanType::Fence => Some(PlanType::Safe),
-        PlanType::Safe => None,
-    }
-}
 
 /// The types that a message to clear names: the first, and the one with which the clearing goes on from there to the last
 /// type.
@@ -42,7 +16,7 @@ pub fn types_named(kind: u8) -> Option<(PlanType, Option<PlanType>)>
     if kind == ALL_TYPES {
         return Some((PlanType::Mission, Some(PlanType::Fence)));
     }
-    let named = type_of(kind)?;
+    let named = PlanType::of_number(kind)?;
     Some((named, None))
 }
 

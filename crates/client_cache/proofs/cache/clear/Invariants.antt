@@ -1,6 +1,6 @@
--- So many were cleared.
-use Rattle.std.proofs.Common.{◌≡◌, replicate, false, length, take}
+-- So many were forgotten.
+use Rattle.std.proofs.Common.{◌≡◌, replicate, None, length, take}
 use Rattle.client_cache.proofs.cache.clear.Given as goal
 
-abbrev pub invariant-loop-seq : goal.invariant-loop-seq
-invariant-loop-seq l = (take l.seq l.flags.items ≡ replicate l.seq false) × (length l.flags.items ≡ length l.fn.flags.items)
+abbrev pub invariant-loop-place : goal.invariant-loop-place
+invariant-loop-place l = (take l.place l.known.items ≡ replicate l.place None) × (length l.known.items ≡ length l.fn.known.items)

@@ -2,7 +2,7 @@ use Rattle.std.proofs.Common.{◌≡◌, ◌+◌, ◌-◌, ◌<◌, ◌≤◌, �
 use Rattle.request_board.specs.BoardState.{BoardState, outstanding, limit}
 use Rattle.client_cache.specs.CacheState.{CacheState, known_at, is_in_flight}
 use Rattle.client_cache.specs.Wants.{missing, missing_at, Asks}
-use Rattle.client_cache.proofs.Asking.{Asks-trans, missing-more, missing-below, missing_at-flying, missing_if-one}
+use Rattle.client_cache.proofs.Asking.{Asks-trans, missing-more, missing-below, missing_at-flying, missing_if-one, outstanding-asks}
 use Rattle.client_cache.specs.Settled.{Settled}
 use Rattle.client_cache.proofs.Settling.{Settled-on, Settled-one}
 use Rattle.client_cache.proofs.cache.Cache.ask_missing.Goals as goal
@@ -12,7 +12,7 @@ full : (c : CacheState) (b : BoardState) (seq n places : ℕ) (c' : CacheState) 
 full c b seq n places c' b' room asks fits within is few =
     let same : c'.client ≡ c.client = ap (λ (x : CacheState). x.client) asks.cache in
     let is' : room + outstanding b' c.client ≡ limit c.client = rw (← same) is in
-    let r : limit c.client - outstanding b c.client - 1 ≡ length (missing c seq n) = omega (arith, is', few, fits, asks.outstanding) in
+    let r : limit c.client - outstanding b c.client - 1 ≡ length (missing c seq n) = omega (arith, is', few, fits, outstanding-asks c b (missing c seq n) c' b' asks) in
     let whole : n + (places - n) ≡ places = omega (arith, within) in
     let more : take (limit c.client - outstanding b c.client - 1) (missing c seq places) ≡ missing c seq n = rw (← whole) (missing-more c seq n (places - n) _ r) in
     rw more asks
@@ -24,7 +24,7 @@ one c b seq n c1 c2 b1 b2 room asks fits is more next =
     let is' : room + outstanding b1 c.client ≡ limit c.client = rw (← same) is in
     let at : missing_at c1 (seq + n) ≡ missing_at c (seq + n) = rw asks.cache (missing_at-flying c (missing c seq n) (seq + n) (missing-below c seq n)) in
     let next' : Asks c1 b1 (missing_at c (seq + n)) c2 b2 = rw (← at) next in
-    (Asks-trans c b (missing c seq n) c1 b1 (missing_at c (seq + n)) c2 b2 asks next', omega (arith, is', more, fits, asks.outstanding, length-append (missing c seq n) (missing_at c (seq + n)), missing_if-one (is_some (known_at c (seq + n)) || is_in_flight c (seq + n)) (seq + n)))
+    (Asks-trans c b (missing c seq n) c1 b1 (missing_at c (seq + n)) c2 b2 asks next', omega (arith, is', more, fits, outstanding-asks c b (missing c seq n) c1 b1 asks, length-append (missing c seq n) (missing_at c (seq + n)), missing_if-one (is_some (known_at c (seq + n)) || is_in_flight c (seq + n)) (seq + n)))
 
 pub returns-then-room-le-SPARED : goal.returns-then-room-le-SPARED
 returns-then-room-le-SPARED c = let i = c.loop-place.invariant in record { asks = full c.args.self.now c.args.board.now c.args.seq c.loop-place.place c.args.places c.loop-place.self c.loop-place.board c.room.result i.0 i.1 i.2 (rw (← ap (λ (x : CacheState). x.client) c.self.view_is) c.room.ensures) c.if-room-le-SPARED.true; places = i.2; settled = i.3 }

@@ -1,13 +1,13 @@
 use Rattle.std.proofs.Common.{◌≡◌, ℕ, ◌+◌, ◌-◌, ◌≤◌, take, min}
 use Rattle.request_board.specs.BoardState.{BoardState, limit, outstanding}
-use Rattle.client_cache.specs.CacheState.{CacheState, window_end}
+use Rattle.client_cache.specs.CacheState.{CacheState, window_end, count_of}
 use Rattle.client_cache.specs.Settled.{Settled}
 use Rattle.client_cache.specs.Wants.{missing, wanted, Asks}
 use Rattle.client_cache.proofs.Settling.{Settled-on, missing-from}
 use Rattle.client_cache.proofs.cache.Cache.want.Goals as goal
 
 -- what is missing behind what is settled is all that is missing
-asks-wanted : (c : CacheState) (b : BoardState) (seq start end : ℕ) (c1 : CacheState) (b1 : BoardState) (c2 : CacheState) → end ≡ min c.count (window_end c) → seq ≤ start → start ≤ end → Settled c seq start → Asks c b (take (limit c.client - outstanding b c.client - 1) (missing c start (end - start))) c1 b1 → c2 ≡ c1 → Asks c b (wanted c b seq) c2 b1
+asks-wanted : (c : CacheState) (b : BoardState) (seq start end : ℕ) (c1 : CacheState) (b1 : BoardState) (c2 : CacheState) → end ≡ min (count_of c.head) (window_end c) → seq ≤ start → start ≤ end → Settled c seq start → Asks c b (take (limit c.client - outstanding b c.client - 1) (missing c start (end - start))) c1 b1 → c2 ≡ c1 → Asks c b (wanted c b seq) c2 b1
 asks-wanted c b seq start end c1 b1 c2 is le le' settled asks same = rw (same, ← is, missing-from c seq start end le le' settled) asks
 
 pub settle-requires : goal.settle-requires
