@@ -1,0 +1,3 @@
+pub mod FenceSoFar
+pub mod Breaches
+pub mod Laws
