@@ -1,6 +1,7 @@
-//! One edge of a polygon, from a vertex to the next one, and a place beside it. Latitude is x and longitude is y.
+//! One edge of a polygon, from a vertex to the next one, and a place beside it. Latitude is x and longitude is y. An edge's
+//! range is tested before its cross product is taken, which has more than 64 bits.
 
-ghost use Rattle.std.specs.Prelude.{◌≡◌, ◌<◌, ◌≤◌, ◌^◌, ◌*ℤ◌, ◌-ℤ◌, pos, unsigned_abs};
+ghost use Rattle.std.specs.Prelude.{◌≡◌, ◌&&◌, pos};
 ghost use Rattle.std.specs.Ordering.{int_eq};
 ghost use Rattle.mission_model.specs.Fence.{cross_product, is_in_range, is_on_edge, crosses_upward, crosses};
 
@@ -11,9 +12,13 @@ use crate::vertex::Vertex;
 pub fn is_on_edge(from: &Vertex, to: &Vertex, x: i32, y: i32) -> bool
     ensures { result ≡ is_on_edge x y (from.now, to.now) }
 {
-    is_in_line(from, to, x, y)
-        && is_in_range(from.x(), to.x(), x)
-        && is_in_range(from.y(), to.y(), y)
+    is_in_box(from, to, x, y) && is_in_line(from, to, x, y)
+}
+
+fn is_in_box(a: &Vertex, b: &Vertex, x: i32, y: i32) -> bool
+    ensures { result ≡ (is_in_range a.now.x b.now.x x && is_in_range a.now.y b.now.y y) }
+{
+    is_in_range(a.x(), b.x(), x) && is_in_range(a.y(), b.y(), y)
 }
 
 fn is_in_line(a: &Vertex, b: &Vertex, x: i32, y: i32) -> bool
@@ -44,25 +49,9 @@ fn is_in_range(a: i32, b: i32, n: i32) -> bool
     a.min(b) <= n && n <= a.max(b)
 }
 
+#[tactic(auto, unfolding(mission_model::specs::Fence::cross_product))]
 fn cross_product(a: &Vertex, b: &Vertex, x: i32, y: i32) -> i128
     ensures { result ≡ cross_product a.now b.now x y }
 {
-    product(difference(b.x(), a.x()), difference(y, a.y()))
-        - product(difference(b.y(), a.y()), difference(x, a.x()))
-}
-
-fn difference(n: i32, from: i32) -> i64
-    ensures value { result ≡ n -ℤ from }
-    ensures small { unsigned_abs result < 2 ^ 32 }
-{
-    i64::from(n) - i64::from(from)
-}
-
-fn product(a: i64, b: i64) -> i128
-    requires left { unsigned_abs a < 2 ^ 32 }
-    requires right { unsigned_abs b < 2 ^ 32 }
-    ensures value { result ≡ a *ℤ b }
-    ensures small { unsigned_abs result < 2 ^ 64 }
-{
-    i128::from(a) * i128::from(b)
+    crate::turn::cross_product((a.x(), a.y()), (b.x(), b.y()), (x, y))
 }

@@ -2,9 +2,15 @@
 //! the even-odd rule over the edges of each polygon.
 #![tactic(auto)]
 
+mod band;
+mod cut;
 mod edge;
 mod fence;
 mod polygon;
+mod turn;
 mod vertex;
 
+pub use band::{Band, MAX_BANDS};
 pub use fence::Fence;
+pub use polygon::polygon_size;
+pub use turn::cross_product;

@@ -1,10 +1,9 @@
 //! A vertex as a fence keeps it: the plan's item, with a blank for the unused places of a bounded list.
 
 ghost use Rattle.std.specs.Prelude.{◌≡◌, ◌==◌};
-ghost use Rattle.mission_model.specs.Command.{vertex_count};
 
 use mission_model::command::{
-    NAV_FENCE_POLYGON_VERTEX_EXCLUSION, NAV_FENCE_POLYGON_VERTEX_INCLUSION, vertex_count,
+    NAV_FENCE_POLYGON_VERTEX_EXCLUSION, NAV_FENCE_POLYGON_VERTEX_INCLUSION,
 };
 use mission_model::{Item, Param};
 use std::marker::Model;
@@ -58,11 +57,11 @@ impl Vertex {
         self.item.command == NAV_FENCE_POLYGON_VERTEX_EXCLUSION
     }
 
-    /// How many vertices it says that its polygon has.
-    pub fn count(&self) -> u32
-        ensures { result ≡ vertex_count self.now }
+    /// The item that it is seen as.
+    pub fn item(&self) -> &Item
+        ensures { result.now ≡ self.now }
     {
-        vertex_count(&self.item)
+        &self.item
     }
 }
 

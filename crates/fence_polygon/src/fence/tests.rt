@@ -52,6 +52,69 @@ fn a_triangle_to_the_pole(rt: HostRuntime) {
 }
 
 #[test]
+fn bands_of_small_fences(rt: HostRuntime) {
+    let triangle = [
+        vertex(IN, 3000, 900_000_000, 0),
+        vertex(IN, 3000, 0, -1_800_000_000),
+        vertex(IN, 3000, 0, 1_800_000_000),
+    ];
+    // neighbouring latitudes, and two polygons of which the second begins with bit 3
+    let steps = [
+        vertex(IN, 3000, 0, 0),
+        vertex(IN, 3000, 1, 5),
+        vertex(IN, 3000, 3, 0),
+        vertex(OUT, 3000, 1, 20),
+        vertex(OUT, 3000, 1, 20),
+        vertex(OUT, 3000, 7, 20),
+    ];
+    let bands: [(&[Item], &[(i32, i32, u64)]); 3] = [
+        (&[], &[]),
+        (
+            &triangle,
+            &[
+                (0, 0, 7),
+                (1, 899_999_999, 5),
+                (900_000_000, 900_000_000, 5),
+            ],
+        ),
+        (
+            &steps,
+            &[
+                (0, 0, 0b000_101),
+                (1, 1, 0b111_111),
+                (2, 2, 0b110_110),
+                (3, 3, 0b110_110),
+                (4, 6, 0b110_000),
+                (7, 7, 0b110_000),
+            ],
+        ),
+    ];
+    for (items, want) in bands {
+        if check_plan(PlanType::Fence, items).is_ok() {
+            let fence = Fence::from_items(items);
+            let found = fence.bands();
+            assert_eq!(rt; found.len(), want.len());
+            for (band, row) in found.iter().zip(want.iter()) {
+                assert_eq!(rt; (band.from, band.to, band.edges), *row);
+            }
+            assert_eq!(rt; fence.edges_at(-1), 0);
+        }
+    }
+    let edges: [(&[Item], i32, u64); 5] = [
+        (&triangle, 900_000_001, 0),
+        (&triangle, 1, 5),
+        (&steps, 5, 0b110_000),
+        (&steps, 8, 0),
+        (&[], 0, 0),
+    ];
+    for (items, x, want) in edges {
+        if check_plan(PlanType::Fence, items).is_ok() {
+            assert_eq!(rt; Fence::from_items(items).edges_at(x), want, "at {x}");
+        }
+    }
+}
+
+#[test]
 fn places_at_small_fences(rt: HostRuntime) {
     let square = [
         vertex(IN, 4000, 0, 0),

@@ -1,42 +1,46 @@
-use Rattle.std.proofs.Common.{◌≡◌, false, ◌&&◌, ◌||◌, not, take, drop, sym, ap, ◌∙◌, ◌==◌}
+use Rattle.std.proofs.Common.{◌≡◌, ◌<◌, Some, ◌&&◌, ◌||◌, not, min, max, length, sym, ap, ◌∙◌, arith}
 use Rattle.std.specs.Int.{w32, cast_signed, cast_unsigned}
+use Rattle.std.specs.List.{slice_get}
 use Rattle.std.proofs.lemmas.Int.{to_z-of_z}
-use Rattle.mission_model.specs.declared.command.TheConstants.{NAV_FENCE_POLYGON_VERTEX_INCLUSION, NAV_FENCE_POLYGON_VERTEX_EXCLUSION}
-use Rattle.mission_model.specs.PlanCode.{polygons_of}
-use Rattle.mission_model.specs.Fence.{is_inside}
-use Rattle.fence_polygon.proofs.Walk.{allowed_by, allowed_by-begin, allowed_by-more, allowed_by-excluded, allowed_by-end, polygons_of-first, and_false}
+use Rattle.mission_model.specs.declared.plan.Item.{Item}
+use Rattle.mission_model.specs.Command.{vertex_count}
+use Rattle.mission_model.specs.Fence.{edges_of}
+use Rattle.fence_polygon.specs.Bands.{edge_set, some_inclusion}
+use Rattle.fence_polygon.specs.Polygons.{FirstPolygon, FirstPolygon-cut}
+use Rattle.fence_polygon.proofs.Walk.{Passed-begin, Passed-some, Passed-edges, Passed-more, Passed-end, first_read}
 use Rattle.fence_polygon.proofs.fence.Fence.allows.Goals as goal
-use Rattle.fence_polygon.proofs.fence.Fence.allows.Goals.{else-is_inside-via-then-is_inside+else-is_exclusion, else-is_inside-via-else-is_inside}
 
-pub loop-first-init : goal.loop-first-init
-loop-first-init c = rw (← c.self.view_is, ← c.as_slice-rest.ensures.value) (allowed_by-begin _ _ _)
+pub loop-edges-init : goal.loop-edges-init
+loop-edges-init c = Passed-begin c.args.self.now c.as_slice-rest.result.now _ _ c.edges_at-edges.result (c.as_slice-rest.ensures.value ∙ c.self.view_is) c.as_slice-rest.ensures.fits c.edges_at-edges.ensures
 
-pub returns-then-is_exclusion : goal.returns-then-is_exclusion
-returns-then-is_exclusion c =
-    let cut = polygons_of-first c.loop-first.rest.now c.in-Some.first.now c.polygon_size.result c.in-Some.ensures.value c.polygon_size.ensures in
-    let inside = ap (λ polygon. is_inside polygon (cast_signed w32 (cast_unsigned w32 c.args.x)) (cast_signed w32 (cast_unsigned w32 c.args.y))) (sym c.split_at.ensures.front) ∙ sym c.is_inside-is_inside.ensures ∙ c.if-is_inside.true in
-    let gone = allowed_by-excluded c.loop-first.has_inclusion c.loop-first.is_included (take c.polygon_size.result c.loop-first.rest.now) (polygons_of (drop c.polygon_size.result c.loop-first.rest.now)) _ _ (cut.1 NAV_FENCE_POLYGON_VERTEX_EXCLUSION ∙ sym c.is_exclusion.ensures ∙ c.if-is_exclusion.true) inside in
-    rw (← to_z-of_z w32 c.args.x c.ranges.x, ← to_z-of_z w32 c.args.y c.ranges.y) (sym gone ∙ ap (λ polygons. allowed_by c.loop-first.has_inclusion c.loop-first.is_included polygons (cast_signed w32 (cast_unsigned w32 c.args.x)) (cast_signed w32 (cast_unsigned w32 c.args.y))) (sym cut.0) ∙ c.loop-first.invariant)
+pub bounds-rest-0 : goal.bounds-rest-0
+bounds-rest-0 c = Passed-some c.args.self.now c.loop-edges.rest.now _ _ c.loop-edges.is_included c.loop-edges.is_excluded c.loop-edges.edges c.loop-edges.invariant (omega arith)
 
-pub loop-first-preserved : goal.loop-first-preserved
-loop-first-preserved c =
-    let cut = polygons_of-first c.loop-first.rest.now c.in-Some.first.now c.polygon_size.result c.in-Some.ensures.value c.polygon_size.ensures in
-    let let_be : (c.is_inside-is_inside.result && (c.in-Some.first.now.command == NAV_FENCE_POLYGON_VERTEX_EXCLUSION)) ≡ false = elim c.else-is_inside.branch [
-      | else-is_inside-via-then-is_inside+else-is_exclusion w ↦ ap (λ b. c.is_inside-is_inside.result && b) (sym w.is_exclusion.ensures ∙ w.if-is_exclusion.false) ∙ and_false c.is_inside-is_inside.result
-      | else-is_inside-via-else-is_inside w ↦ ap (λ b. b && (c.in-Some.first.now.command == NAV_FENCE_POLYGON_VERTEX_EXCLUSION)) w.if-is_inside.false
-    ] in
-    let inside = c.is_inside-is_inside.ensures ∙ ap (λ polygon. is_inside polygon (cast_signed w32 (cast_unsigned w32 c.args.x)) (cast_signed w32 (cast_unsigned w32 c.args.y))) c.split_at.ensures.front in
-    let step = allowed_by-more c.loop-first.has_inclusion c.loop-first.is_included c.is_inside-is_inside.result c.is_inclusion-is_inclusion.result (c.in-Some.first.now.command == NAV_FENCE_POLYGON_VERTEX_EXCLUSION) (take c.polygon_size.result c.loop-first.rest.now) (polygons_of (drop c.polygon_size.result c.loop-first.rest.now)) _ _ (cut.1 NAV_FENCE_POLYGON_VERTEX_INCLUSION ∙ sym c.is_inclusion-is_inclusion.ensures) (cut.1 NAV_FENCE_POLYGON_VERTEX_EXCLUSION) inside let_be in
-    rw c.split_at.ensures.back (step ∙ ap (λ polygons. allowed_by c.loop-first.has_inclusion c.loop-first.is_included polygons (cast_signed w32 (cast_unsigned w32 c.args.x)) (cast_signed w32 (cast_unsigned w32 c.args.y))) (sym cut.0) ∙ c.loop-first.invariant)
+pub polygon_size-size-requires : goal.polygon_size-size-requires
+polygon_size-size-requires c = Passed-some c.args.self.now c.loop-edges.rest.now _ _ c.loop-edges.is_included c.loop-edges.is_excluded c.loop-edges.edges c.loop-edges.invariant (omega arith)
 
-pub returns-then-is_included : goal.returns-then-is_included
-returns-then-is_included c =
-    let is = c.if-is_included.true in
+pub is_inside-is_inside-requires-clause-edges : goal.is_inside-is_inside-requires-clause-edges
+is_inside-is_inside-requires-clause-edges c =
+    let x = cast_signed w32 (cast_unsigned w32 c.args.x) in
+    let some : 0 < length c.loop-edges.rest.now = Passed-some c.args.self.now c.loop-edges.rest.now _ _ c.loop-edges.is_included c.loop-edges.is_excluded c.loop-edges.edges c.loop-edges.invariant (omega arith) in
+    let is : Some c.index-rest-0.result ≡ slice_get c.loop-edges.rest.now 0 = first_read c.loop-edges.rest.now c.index-rest-0.result some c.index-rest-0.is in
+    let cut : FirstPolygon c.loop-edges.rest.now c.polygon_size-size.result = FirstPolygon-cut c.loop-edges.rest.now c.index-rest-0.result c.polygon_size-size.result is (c.polygon_size-size.ensures ∙ ap (λ (item : Item). min (max 1 (vertex_count item)) (length c.loop-edges.rest.now)) c.item.ensures) in
+    c.lowest.ensures ∙ (Passed-edges c.args.self.now c.loop-edges.rest.now x (cast_signed w32 (cast_unsigned w32 c.args.y)) c.loop-edges.is_included c.loop-edges.is_excluded c.loop-edges.edges c.polygon_size-size.result c.loop-edges.invariant cut).0 ∙ ap (λ polygon. edge_set x (edges_of polygon)) (sym c.split_at.ensures.front)
+
+pub loop-edges-smaller : goal.loop-edges-smaller
+loop-edges-smaller c =
+    let some : 0 < length c.loop-edges.rest.now = Passed-some c.args.self.now c.loop-edges.rest.now _ _ c.loop-edges.is_included c.loop-edges.is_excluded c.loop-edges.edges c.loop-edges.invariant (omega arith) in
+    omega (arith, c.split_at.ensures.back_len, c.polygon_size-size.ensures)
+
+pub loop-edges-preserved : goal.loop-edges-preserved
+loop-edges-preserved c =
+    let some : 0 < length c.loop-edges.rest.now = Passed-some c.args.self.now c.loop-edges.rest.now _ _ c.loop-edges.is_included c.loop-edges.is_excluded c.loop-edges.edges c.loop-edges.invariant (omega arith) in
+    let is : Some c.index-rest-0.result ≡ slice_get c.loop-edges.rest.now 0 = first_read c.loop-edges.rest.now c.index-rest-0.result some c.index-rest-0.is in
+    let cut : FirstPolygon c.loop-edges.rest.now c.polygon_size-size.result = FirstPolygon-cut c.loop-edges.rest.now c.index-rest-0.result c.polygon_size-size.result is (c.polygon_size-size.ensures ∙ ap (λ (item : Item). min (max 1 (vertex_count item)) (length c.loop-edges.rest.now)) c.item.ensures) in
+    Passed-more c.args.self.now c.loop-edges.rest.now c.split_at.result.0.now c.split_at.result.1.now c.index-rest-0.result _ _ c.loop-edges.is_included c.loop-edges.is_excluded c.is_inside-is_inside.result c.is_inclusion.result c.is_exclusion.result c.loop-edges.edges c.polygon_size-size.result c.above-edges.result c.loop-edges.invariant cut is c.split_at.ensures.front c.split_at.ensures.back c.is_inside-is_inside.ensures c.is_inclusion.ensures c.is_exclusion.ensures c.above-edges.ensures
+
+pub returns : goal.returns
+returns c =
+    let any : c.self.inside.has_inclusion ≡ some_inclusion c.args.self.now = c.self.invariant.1 ∙ ap some_inclusion c.self.view_is in
     rw (← to_z-of_z w32 c.args.x c.ranges.x, ← to_z-of_z w32 c.args.y c.ranges.y)
-    (is ∙ sym (ap (λ b. b || not c.loop-first.has_inclusion) is) ∙ sym (allowed_by-end c.loop-first.has_inclusion c.loop-first.is_included c.loop-first.rest.now _ _ c.in_default.ensures.value) ∙ c.loop-first.invariant)
-
-pub returns-else-is_included : goal.returns-else-is_included
-returns-else-is_included c =
-    let is = c.if-is_included.false in
-    rw (← to_z-of_z w32 c.args.x c.ranges.x, ← to_z-of_z w32 c.args.y c.ranges.y)
-    (sym (ap (λ b. b || not c.loop-first.has_inclusion) is) ∙ sym (allowed_by-end c.loop-first.has_inclusion c.loop-first.is_included c.loop-first.rest.now _ _ c.in_default.ensures.value) ∙ c.loop-first.invariant)
+    (c.is_open.ensures ∙ ap (λ b. (c.loop-edges.is_included || not b) && not c.loop-edges.is_excluded) any ∙ Passed-end c.args.self.now c.loop-edges.rest.now _ _ c.loop-edges.is_included c.loop-edges.is_excluded c.loop-edges.edges c.loop-edges.invariant (omega arith))

@@ -1,0 +1,4 @@
+pub mod Bands
+pub mod Marks
+pub mod Polygons
+pub mod Turn

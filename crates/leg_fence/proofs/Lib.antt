@@ -1,0 +1,4 @@
+pub mod Products
+pub mod Sound
+pub mod Complete
+pub mod First
