@@ -2,5 +2,8 @@ pub mod Places
 pub mod LandStartFault
 pub mod JumpTargets
 pub mod LoitersLeft
+pub mod FewLoiters
 pub mod Joined
+pub mod Begun
+pub mod Landings
 pub mod Answered

@@ -1,5 +1,5 @@
 -- Loiters without an end: with one more item, and the first one that cannot be left.
-use Rattle.std.proofs.Common.{◌≡◌, ℕ, ◌+◌, ◌≤◌, Bool, true, false, cond, not, ◌&&◌, List, [], ◌∷◌, ◌++◌, Option, Some, None, length, refl, sym, ap, ◌∙◌, arith, append_assoc}
+use Rattle.std.proofs.Common.{◌≡◌, ℕ, ◌+◌, Bool, true, false, cond, not, ◌&&◌, List, [], ◌∷◌, ◌++◌, Option, Some, None, length, refl, sym, ap, ◌∙◌, arith, append_assoc}
 use Rattle.std.proofs.lemmas.List.{length_push}
 use Rattle.mission_model.specs.declared.plan.Item.{Item}
 use Rattle.mission_model.specs.Landing.{is_land_start}
@@ -55,15 +55,6 @@ pub last_loiter_from-more : (items : List Item) (item : Item) → last_loiter_fr
 last_loiter_from-more items item =
     let same : 0 + length items ≡ length items = omega arith in
     last_loiter_from-push 0 items item ∙ ap (or_place None (is_unlimited_loiter item)) same
-
-length-with_place : (b : Bool) (n : ℕ) (xs : List ℕ) → length (with_place b n xs) ≤ length xs + 1
-length-with_place true n xs = omega arith
-length-with_place false n xs = omega arith
-
--- they are no more than the items
-pub length-stuck_from : (place : ℕ) (items : List Item) → length (stuck_from place items) ≤ length items
-length-stuck_from place [] = omega arith
-length-stuck_from place (item ∷ items) = omega (arith, length-with_place (is_unlimited_loiter item && go_on_otherwise items) place (stuck_from (place + 1) items), length-stuck_from (place + 1) items)
 
 not_left : (mission : List Item) (loiter other : Bool) (n : ℕ) (rest : List ℕ) (later : Option ℕ) → later ≡ first_not_left (jumps_from 0 mission) rest → cond (loiter && other && not (is_jump_target mission (n + 1))) (Some n) later ≡ first_not_left (jumps_from 0 mission) (with_place (loiter && other) n rest)
 not_left mission true true n rest later h =

@@ -1,6 +1,7 @@
 -- What a judge keeps of the items that it was shown, and what one more item makes of it.
-use Rattle.std.specs.Prelude.{ℕ, ◌+◌, ◌==◌, Bool, false, not, ◌&&◌, ◌||◌, List, [], ◌∷◌, Option, Some, None, is_some, if◌then◌else◌}
+use Rattle.std.specs.Prelude.{ℕ, ◌+◌, ◌==◌, nat_lt, Bool, false, not, ◌&&◌, ◌||◌, List, [], ◌∷◌, ◌++◌, length, Option, Some, None, is_some, if◌then◌else◌}
 use Rattle.std.specs.List.{list_any}
+use Rattle.mission_model.specs.declared.limits.TheConstants.{MAX_JUMPS}
 use Rattle.mission_model.specs.declared.plan.Item.{Item}
 use Rattle.mission_model.specs.declared.command.Jump.{Jump}
 use Rattle.mission_model.specs.Command.{has_position, jump_of}
@@ -95,6 +96,14 @@ last_loiter_from place (item ∷ next ∷ after) = last_loiter_from (place + 1) 
 abbrev pub stuck_with : Option ℕ → Item → List ℕ
 stuck_with None next = []
 stuck_with (Some place) next = if is_land_start next then [] else place ∷ []
+
+-- the most loiters that a judge keeps: one more than the jumps that may let loiters out
+abbrev pub most_loiters : ℕ
+most_loiters = MAX_JUMPS + 1
+
+-- the loiters kept so far, before one more
+abbrev pub kept_with : List ℕ → List ℕ → List ℕ
+kept_with kept more = if nat_lt (length kept) most_loiters then kept ++ more else kept
 
 -- the first of these loiters whose next item no jump leads to
 abbrev pub first_not_left : List (ℕ × ℕ) → List ℕ → Option ℕ

@@ -29,12 +29,11 @@ impl Faults {
     }
 }
 
-/// The first item that breaks a rule, once it is known whether the one at this place does.
-pub fn or_place(first: Option<u16>, breaks: bool, place: u16) -> Option<u16>
-    ensures { result ≡ or_place first breaks place }
+/// Notes an item that breaks a rule, where none before it does.
+pub fn note(first: &mut Option<u16>, breaks: bool, place: u16)
+    ensures { first.new ≡ or_place first.old breaks place }
 {
-    match first {
-        None if breaks => Some(place),
-        _ => first,
+    if breaks && first.is_none() {
+        *first = Some(place);
     }
 }

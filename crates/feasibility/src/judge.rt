@@ -1,11 +1,12 @@
 //! The judge of one mission.
 
-ghost use Rattle.std.specs.Prelude.{◌≡◌, [], ◌∷◌, ◌<◌};
+ghost use Rattle.std.specs.Prelude.{◌≡◌, [], nat_lt};
+ghost use Rattle.mission_model.specs.Command.{has_position};
 ghost use Rattle.mission_model.specs.Feasible.{first_broken, at_start};
-ghost use Rattle.feasibility.specs.Verdicts.{answer_of};
-ghost use Rattle.feasibility.specs.Judged.{Judged, CanFeed, JoinsItem, TellsVerdict, TellsLanding};
+ghost use Rattle.feasibility.specs.Verdicts.{answer_of, verdict_at_begin};
+ghost use Rattle.feasibility.specs.Judged.{Judged, CanFeed, JoinsItem, TellsVerdict, TellsLanding, LandsInOrder};
 
-use crate::faults::{Faults, or_place};
+use crate::faults::{Faults, note};
 use crate::item_rules::{
     breaks_allowed, breaks_greatest_height, breaks_home_set, breaks_takeoff_height, is_takeoff,
 };
@@ -14,6 +15,7 @@ use crate::land_starts::LandStarts;
 use crate::loiters::Loiters;
 use crate::seen::{Seen, lacks_asked};
 use fence_polygon::Fence;
+use mission_model::command::has_position;
 use mission_model::{Home, Item, Params};
 
 /// What is found of a mission.
@@ -28,7 +30,8 @@ pub enum Verdict {
     Broken { rule: u8, item: u16 },
 }
 
-/// A judge of a mission, which is shown its items in their order.
+/// A judge of a mission, which is shown its items in their order. It keeps what the rules ask of the items that it was
+/// shown, not the items, and its verdict once that is found.
 #[derive(Drop)]
 pub struct Judge {
     params: Params,
@@ -41,6 +44,7 @@ pub struct Judge {
     land_starts: LandStarts,
     jumps: Jumps,
     loiters: Loiters,
+    verdict: Option<Verdict>,
 }
 
 impl Judge {
@@ -59,38 +63,63 @@ impl Judge {
             land_starts: LandStarts::new(),
             jumps: Jumps::new(),
             loiters: Loiters::new(),
+            verdict: at_begin(count),
         }
     }
 
-    /// Takes the next item.
+    /// Begins anew, in the same place: it is to judge a mission of `count` items, and keeps the fence that it is given.
+    pub fn restart(&mut self, params: Params, home: Option<Home>, fence: Fence, count: u16)
+        ensures { Judged self.new params home fence count [] }
+    {
+        self.params = params;
+        self.home = home;
+        self.fence = fence;
+        self.count = count;
+        self.fed = 0;
+        self.seen = Seen::new();
+        self.faults = Faults::new();
+        self.land_starts = LandStarts::new();
+        self.jumps.clear();
+        self.loiters.clear();
+        self.verdict = at_begin(count);
+    }
+
+    /// Takes the next item, and with the last one finds the verdict.
     pub fn feed(&mut self, item: &Item)
         requires { CanFeed self.old item.now }
         ensures { JoinsItem self.old item.now self.new }
     {
-        let place = self.fed;
-        self.faults = self.faults_with(item);
-        self.seen = self.seen.with(item);
-        self.land_starts = self.land_starts.with(place, item);
-        self.jumps.feed(place, item);
-        self.loiters.feed(place, item);
-        self.fed = place + 1;
+        self.take(item);
+        self.verdict = self.found();
+    }
+
+    /// How many items were shown.
+    pub fn fed(&self) -> u16
+        ensures { result ≡ self.now.fed }
+    {
+        self.fed
+    }
+
+    /// The fence that the mission is judged by.
+    pub fn fence(&self) -> &Fence
+        ensures { result.now ≡ self.now.fence }
+    {
+        &self.fence
     }
 
     /// What was found, once the last item was shown.
     pub fn verdict(&self) -> Option<Verdict>
         ensures { TellsVerdict self.now result }
     {
-        if self.fed < self.count {
-            return None;
-        }
-        Some(first_broken(&self.broken_places()))
+        self.verdict
     }
 
     /// The seq of the land start and that of its landing, where the mission is feasible and has a land start.
     pub fn landing(&self) -> Option<(u16, u16)>
-        ensures { TellsLanding self.now result }
+        ensures found { TellsLanding self.now result }
+        ensures in_order { LandsInOrder self.now result }
     {
-        match self.verdict() {
+        match self.verdict {
             Some(Verdict::Feasible) => self.land_starts.landing,
             _ => None,
         }
@@ -98,26 +127,57 @@ impl Judge {
 }
 
 impl Judge {
+    ghost use Rattle.feasibility.specs.Judged.{TakesItem, FindsVerdict};
     ghost use Rattle.feasibility.specs.Parts.{faults_with, places_of};
 
-    /// The first items that break the rules on single items, once this item is shown.
-    fn faults_with(&self, item: &Item) -> Faults
-        ensures { result ≡ faults_with self.now item.now }
+    /// Keeps what the rules ask of the next item.
+    fn take(&mut self, item: &Item)
+        requires { CanFeed self.old item.now }
+        ensures { TakesItem self.old item.now self.new }
     {
         let place = self.fed;
-        let faults = self.faults;
+        let is_positioned = has_position(item);
+        self.find_faults(item, is_positioned);
+        self.seen = self.seen.with(item, is_positioned);
+        self.land_starts.feed(place, item);
+        self.jumps.feed(place, item);
+        self.loiters.feed(place, item);
+        self.fed = place + 1;
+    }
+
+    /// The verdict, where the last item was shown.
+    fn found(&self) -> Option<Verdict>
+        ensures { FindsVerdict self.now result }
+    {
+        if self.lacks_items() {
+            return None;
+        }
+        Some(first_broken(&self.broken_places()))
+    }
+
+    /// Whether the last item was not shown yet.
+    fn lacks_items(&self) -> bool
+        ensures { result ≡ nat_lt self.now.fed self.now.count }
+    {
+        self.fed < self.count
+    }
+
+    /// Notes the rules on single items that this item breaks. `is_positioned` says whether it has a position.
+    fn find_faults(&mut self, item: &Item, is_positioned: bool)
+        requires { is_positioned ≡ has_position item.now }
+        ensures { self.new ≡ record self.old { faults = faults_with self.old item.now } }
+    {
+        let place = self.fed;
         let takeoff_late = is_takeoff(item) && self.seen.position;
         let takeoff_low = breaks_takeoff_height(&self.params, self.home, item);
-        let outside = breaks_allowed(&self.fence, item);
-        let high = breaks_greatest_height(&self.params, self.home, item);
-        let homeless = breaks_home_set(self.home, item);
-        Faults {
-            takeoff_first: or_place(faults.takeoff_first, takeoff_late, place),
-            takeoff_height: or_place(faults.takeoff_height, takeoff_low, place),
-            allowed: or_place(faults.allowed, outside, place),
-            greatest_height: or_place(faults.greatest_height, high, place),
-            home_set: or_place(faults.home_set, homeless, place),
-        }
+        let outside = breaks_allowed(&self.fence, item, is_positioned);
+        let high = breaks_greatest_height(&self.params, self.home, item, is_positioned);
+        let homeless = breaks_home_set(self.home, item, is_positioned);
+        note(&mut self.faults.takeoff_first, takeoff_late, place);
+        note(&mut self.faults.takeoff_height, takeoff_low, place);
+        note(&mut self.faults.allowed, outside, place);
+        note(&mut self.faults.greatest_height, high, place);
+        note(&mut self.faults.home_set, homeless, place);
     }
 
     /// The first place that breaks each rule, in the order of the rules.
@@ -139,6 +199,13 @@ impl Judge {
             self.loiters.first_not_left(&self.jumps),
         ]
     }
+}
+
+/// The verdict on a mission of `count` items before the first one is shown.
+fn at_begin(count: u16) -> Option<Verdict>
+    ensures { result ≡ verdict_at_begin count }
+{
+    (count == 0).then_some(Verdict::Broken { rule: 1, item: 0 })
 }
 
 /// The place where a rule on the whole mission is broken.

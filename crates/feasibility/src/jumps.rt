@@ -28,6 +28,13 @@ impl Jumps {
         }
     }
 
+    /// Forgets them all.
+    pub fn clear(&mut self)
+        ensures { self.new.list.items ≡ [] }
+    {
+        self.list.clear();
+    }
+
     /// Takes one more item of the mission, which stands at this place.
     pub fn feed(&mut self, place: u16, item: &Item)
         requires { is_some (jump_of item.now) ≡ true → length self.old.list.items < MAX_JUMPS }

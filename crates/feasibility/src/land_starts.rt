@@ -2,7 +2,7 @@
 
 ghost use Rattle.std.specs.Prelude.{◌≡◌};
 
-use crate::faults::or_place;
+use crate::faults::note;
 use crate::item_rules::{is_land_start, is_landing};
 use mission_model::Item;
 
@@ -27,24 +27,23 @@ impl LandStarts {
         }
     }
 
-    /// The same of the mission with one more item, which stands at this place.
-    pub fn with(self, place: u16, item: &Item) -> LandStarts
-        ensures { result ≡ land_starts_with self place item.now }
+    /// Takes one more item of the mission, which stands at this place.
+    pub fn feed(&mut self, place: u16, item: &Item)
+        ensures { self.new ≡ land_starts_with self.old place item.now }
     {
         let starts = is_land_start(item);
-        LandStarts {
-            first: or_place(self.first, starts, place),
-            second: or_place(self.second, starts && self.first.is_some(), place),
-            landing: self.landing_with(place, item),
-        }
+        self.land(place, item);
+        note(&mut self.second, starts && self.first.is_some(), place);
+        note(&mut self.first, starts, place);
     }
 
-    fn landing_with(self, place: u16, item: &Item) -> Option<(u16, u16)>
-        ensures { result ≡ landing_with self.landing self.first place item.now }
+    /// Takes the first landing after the first land start.
+    fn land(&mut self, place: u16, item: &Item)
+        ensures { self.new ≡ record self.old { landing = landing_with self.old.landing self.old.first place item.now } }
     {
         match (self.landing, self.first) {
-            (None, Some(start)) if is_landing(item) => Some((start, place)),
-            _ => self.landing,
+            (None, Some(start)) if is_landing(item) => self.landing = Some((start, place)),
+            _ => {}
         }
     }
 

@@ -1,4 +1,5 @@
-//! The loiters without an end of a mission so far whose next item is no land start. They can be left by a jump alone.
+//! The loiters without an end of a mission so far whose next item is no land start. They can be left by a jump alone, so
+//! the first of them, one more than a mission may have jumps, decide whether each can be left.
 
 ghost use Rattle.std.specs.Prelude.{◌≡◌, ◌<◌, ◌≢◌, length, None};
 ghost use Rattle.feasibility.specs.SoFar.{first_not_left};
@@ -7,9 +8,9 @@ use crate::item_rules::{is_land_start, is_unlimited_loiter};
 use crate::jumps::Jumps;
 use arrayvec::ArrayVec;
 use mission_model::Item;
-use mission_model::limits::MAX_MISSION_ITEMS;
+use mission_model::limits::MAX_JUMPS;
 
-const CAPACITY: usize = MAX_MISSION_ITEMS as usize;
+const CAPACITY: usize = MAX_JUMPS + 1;
 
 /// Their places, and the place of the last item where that one is such a loiter whose next item is not known yet.
 #[derive(Drop)]
@@ -19,10 +20,9 @@ pub struct Loiters {
 }
 
 impl Loiters {
-    ghost use Rattle.std.specs.Prelude.{[], ◌++◌};
-    ghost use Rattle.feasibility.specs.SoFar.{stuck_with, or_place};
+    ghost use Rattle.std.specs.Prelude.{[], ◌∷◌};
+    ghost use Rattle.feasibility.specs.SoFar.{kept_with, stuck_with, or_place};
     ghost use Rattle.mission_model.specs.Feasible.{is_unlimited_loiter};
-    ghost use Rattle.feasibility.specs.declared.loiters.TheConstants.{CAPACITY};
 
     pub fn new() -> Loiters
         ensures list { result.list.items ≡ [] }
@@ -34,18 +34,36 @@ impl Loiters {
         }
     }
 
+    /// Forgets them all.
+    pub fn clear(&mut self)
+        ensures list { self.new.list.items ≡ [] }
+        ensures last { self.new.last ≡ None }
+    {
+        self.list.clear();
+        self.last = None;
+    }
+
     /// Takes one more item of the mission, which stands at this place.
     pub fn feed(&mut self, place: u16, item: &Item)
-        requires { length self.old.list.items < CAPACITY }
-        ensures list { self.new.list.items ≡ self.old.list.items ++ stuck_with self.old.last item.now }
+        ensures list { self.new.list.items ≡ kept_with self.old.list.items (stuck_with self.old.last item.now) }
         ensures last { self.new.last ≡ or_place None (is_unlimited_loiter item.now) place }
     {
         if let Some(loiter) = self.last {
             if !is_land_start(item) {
-                self.list.push(loiter);
+                self.keep(loiter);
             }
         }
         self.last = is_unlimited_loiter(item).then_some(place);
+    }
+
+    /// Keeps one more loiter, where it is among the first.
+    fn keep(&mut self, loiter: u16)
+        ensures list { self.new.list.items ≡ kept_with self.old.list.items (loiter ∷ []) }
+        ensures last { self.new.last ≡ self.old.last }
+    {
+        if self.list.len() < CAPACITY {
+            self.list.push(loiter);
+        }
     }
 
     /// The first of them whose next item is no jump's target.

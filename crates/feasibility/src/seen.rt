@@ -1,11 +1,11 @@
 //! Which sorts of items the mission has so far.
 
 ghost use Rattle.std.specs.Prelude.{◌≡◌};
+ghost use Rattle.mission_model.specs.Command.{has_position};
 ghost use Rattle.mission_model.specs.Feasible.{lacks_asked};
 
 use crate::item_rules::{is_landing, is_takeoff};
 use mission_model::Item;
-use mission_model::command::has_position;
 
 /// Whether the mission so far has an item with a position, a takeoff, and a landing.
 #[derive(Clone, Copy)]
@@ -28,12 +28,13 @@ impl Seen {
         }
     }
 
-    /// The same of the mission with one more item.
-    pub fn with(self, item: &Item) -> Seen
+    /// The same of the mission with one more item. `is_positioned` says whether it has a position.
+    pub fn with(self, item: &Item, is_positioned: bool) -> Seen
+        requires { is_positioned ≡ has_position item.now }
         ensures { result ≡ seen_with self item.now }
     {
         Seen {
-            position: self.position || has_position(item),
+            position: self.position || is_positioned,
             takeoff: self.takeoff || is_takeoff(item),
             landing: self.landing || is_landing(item),
         }

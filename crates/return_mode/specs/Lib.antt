@@ -1,3 +1,6 @@
 pub mod Route
 pub mod ReturnState
 pub mod Nearer
+pub mod There
+pub mod Landings
+pub mod Laws

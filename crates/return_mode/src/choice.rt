@@ -1,6 +1,6 @@
 //! The choice of a return, by the parameter `rtl_type`.
 
-ghost use Rattle.std.specs.Prelude.{◌≡◌, ◌<◌, ◌≤◌, IsTrue, List, length};
+ghost use Rattle.std.specs.Prelude.{◌≡◌, ◌≢◌, ℕ, ◌<◌, ◌≤◌, IsTrue, List, length};
 ghost use Rattle.std.specs.Option.{ForSome};
 ghost use Rattle.mission_model.specs.declared.plan.Item.{Item as ItemValue};
 ghost use Rattle.mission_model.specs.declared.plan.PlanType.TheVariants as kind;
@@ -22,6 +22,8 @@ use mission_model::{Home, Item, Params};
 ///
 /// With `rtl_type` 0 it is the nearest of the home and of the safe points that the fence allows; with 1 the mission's
 /// landing; with 2 the mission, on to its landing or back to its begin. With 1 and 2 it is the home where there is no such.
+///
+/// What a type does not look at may be handed empty: `landing`, `feasible` and `index` with 0, and `safe` with 1 and 2.
 pub fn choose(
     params: Params,
     home: Option<Home>,
@@ -38,6 +40,11 @@ pub fn choose(
     ensures over_missions { (mission : List ItemValue) → feasible ≡ is_feasible params home mission fence.now
         → landing ≡ landing_where feasible mission
         → result ≡ begun (ReturnList params home position safe.now mission fence.now index) }
+    ensures nearest { params.rtl_type ≡ 0 → (mission : List ItemValue) (seq : ℕ)
+        → result ≡ begun (ReturnList params home position safe.now mission fence.now seq) }
+    ensures along { params.rtl_type ≢ 0 → (mission points : List ItemValue) → feasible ≡ is_feasible params home mission fence.now
+        → landing ≡ landing_where feasible mission
+        → result ≡ begun (ReturnList params home position points mission fence.now index) }
 {
     ReturnPlan::begin(route(
         params, home, position, fence, safe, landing, feasible, index,

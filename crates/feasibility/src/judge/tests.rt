@@ -22,14 +22,14 @@ const HOME: Option<Home> = Some(Home {
 /// What is found of a mission, and where it lands.
 #[derive(Clone, Copy, Debug, PartialEq, Eq)]
 enum Found {
-    /// The plans are not valid.
+    /// The plans are not valid, or there was no verdict on an empty mission.
     Nothing,
     /// There was a verdict before the last item.
     Early,
     Answer(Option<Verdict>, Option<(u16, u16)>),
 }
 
-/// Judges the mission, item by item.
+/// Judges the mission, item by item, by a judge that has judged an empty one before.
 fn verdict_on(params: Params, home: Option<Home>, vertices: &[Item], mission: &[Item]) -> Found {
     if check_plan(PlanType::Fence, vertices).is_err() {
         return Found::Nothing;
@@ -38,7 +38,11 @@ fn verdict_on(params: Params, home: Option<Home>, vertices: &[Item], mission: &[
         return Found::Nothing;
     }
     let fence = Fence::from_items(vertices);
-    let mut judge = Judge::begin(params, home, &fence, mission.len() as u16);
+    let mut judge = Judge::begin(params, home, &fence, 0);
+    if judge.verdict().is_none() {
+        return Found::Nothing;
+    }
+    judge.restart(params, home, fence, mission.len() as u16);
     for item in mission {
         if judge.verdict().is_some() || judge.landing().is_some() {
             return Found::Early;
@@ -320,4 +324,33 @@ fn land_starts_loiters_and_the_fence(rt: HostRuntime) {
             "of {mission:?}"
         );
     }
+}
+
+/// 33 loiters, each with a waypoint behind it, and then 32 jumps to the first 32 of those waypoints.
+fn loiters_and_jumps() -> [Item; 98] {
+    let mut mission = [waypoint(); 98];
+    for row in 0..33 {
+        mission[2 * row] = plain(LOITER);
+    }
+    for row in 0..32 {
+        mission[66 + row] = jump(1000 * (2 * row as i32 + 1));
+    }
+    mission
+}
+
+#[test]
+fn one_loiter_more_than_jumps(rt: HostRuntime) {
+    let mission = loiters_and_jumps();
+    assert_eq!(rt; verdict_on(nothing(), HOME, &[], &mission), broken(10, 64));
+    let left = [mission[64], mission[65], jump(1000)];
+    assert_eq!(rt; verdict_on(nothing(), HOME, &[], &left), feasible());
+}
+
+#[test]
+fn what_a_judge_was_shown(rt: HostRuntime) {
+    let mut judge = Judge::begin(nothing(), HOME, &Fence::from_items(&[]), 1);
+    assert_eq!(rt;
+        (judge.fed(), judge.verdict(), judge.fence().allows(0, 0)),
+        (0, None, true)
+    );
 }

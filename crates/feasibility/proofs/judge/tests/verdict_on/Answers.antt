@@ -13,7 +13,7 @@ feed-requires c =
     CanFeed-at c.loop-item.judge c.args.params c.args.home c.args.vertices.now c.args.mission.now c.loop-item.item-index _ valid (slice_get-get_or c.args.mission.now c.loop-item.item-index _ within) c.loop-item.invariant
 
 pub loop-item-init : goal.loop-item-init
-loop-item-init c = subst (λ fence. Judged c.begin-judge.result c.args.params c.args.home fence (length c.args.mission.now) (take 0 c.args.mission.now)) c.from_items-fence.ensures c.begin-judge.ensures
+loop-item-init c = subst (λ fence. Judged c.restart.new.self c.args.params c.args.home fence (length c.args.mission.now) (take 0 c.args.mission.now)) c.from_items-fence.ensures c.restart.ensures
 
 pub loop-item-preserved : goal.loop-item-preserved
 loop-item-preserved c =
