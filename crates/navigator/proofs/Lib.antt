@@ -1,0 +1,12 @@
+pub mod Takings
+pub mod NextItems
+pub mod Feeds
+pub mod Lists
+pub mod Judged
+pub mod Verdicts
+pub mod CanStand
+pub mod Marking
+pub mod Changes
+pub mod Choosing
+pub mod Ways
+pub mod Events

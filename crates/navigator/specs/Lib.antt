@@ -1,0 +1,11 @@
+pub mod Uses
+pub mod Taking
+pub mod Judging
+pub mod Standing
+pub mod NavState
+pub mod OnMission
+pub mod OnReturn
+pub mod Meeting
+pub mod EventLaw
+pub mod Caches
+pub mod Begins
