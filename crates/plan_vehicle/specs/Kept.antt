@@ -1,16 +1,18 @@
 -- What a written item and a served request leave: the own draft and the own link change, all others stay.
 use Rattle.std.specs.Prelude.{◌≡◌, ◌≢◌, ℕ, Bool, true, false, List, [], ◌∷◌, ◌++◌, Some, find, refl}
+use Rattle.std.specs.List.{list_any}
 use Rattle.std.proofs.Common.{sym, ap, ◌∙◌, ⊎_elim}
-use Rattle.std.proofs.lemmas.Bool.{eqb-true, eq-eqb, ne_eqb, and_parts, and_from, cases_Bool}
+use Rattle.std.proofs.lemmas.Bool.{eqb-true, eq-eqb, ne_eqb, and_parts, and_from, cases_Bool, cond-true, cond-false}
 use Rattle.mission_model.specs.declared.plan.PlanType.{PlanType}
 use Rattle.mission_model.specs.declared.plan.PlanType.TheVariants.{Mission, Fence, Safe}
 use Rattle.mission_model.specs.declared.plan.Item.{Item}
 use Rattle.mission_model.specs.declared.request.Client.TheVariants as client
 use Rattle.mission_model.specs.declared.request.Asked.{Asked}
 use Rattle.mission_model.specs.declared.request.Reply.{Reply}
-use Rattle.mission_model.specs.Command.{is_kind}
-use Rattle.plan_vehicle.specs.PlanState.{DraftState, put_by, is_draft, items_of, draft_of, with_written}
-use Rattle.plan_vehicle.specs.VehicleState.{ServedState, is_of_link, with_served, last_served}
+use Rattle.mission_model.specs.PlanTypes.{is_kind}
+use Rattle.plan_vehicle.specs.Drafts.{DraftState, put_by, put_first, is_draft, items_of, draft_of, with_written}
+use Rattle.plan_vehicle.specs.VehicleState.{ServedState}
+use Rattle.plan_vehicle.specs.Requests.{is_of_link, with_served, last_served}
 
 put_by-here : {A : Type 0} (test : A → Bool) (new x : A) (xs : List A) → test x ≡ true → put_by test new (x ∷ xs) ≡ new ∷ xs
 put_by-here test new x xs h = rw h refl
@@ -41,6 +43,15 @@ find-put_by_other other test new [] fails apart = find-behind other new [] fails
 find-put_by_other other test new (x ∷ xs) fails apart =
     ⊎_elim (λ h. ap (find other) (put_by-here test new x xs h) ∙ find-behind other new xs fails ∙ sym (find-behind other x xs (apart x h))) (λ h. ap (find other) (put_by-behind test new x xs h) ∙ find-before other x (put_by test new xs) xs (find-put_by_other other test new xs fails apart)) (cases_Bool (test x))
 
+-- the same of what is put first
+find-put_first : {A : Type 0} (test : A → Bool) (new : A) (xs : List A) → test new ≡ true → find test (put_first test new xs) ≡ Some new
+find-put_first test new xs passes =
+    ⊎_elim (λ h. ap (find test) (cond-true (list_any test xs) (put_by test new xs) (new ∷ xs) h) ∙ find-put_by test new xs passes) (λ h. ap (find test) (cond-false (list_any test xs) (put_by test new xs) (new ∷ xs) h) ∙ find-here test new xs passes) (cases_Bool (list_any test xs))
+
+find-put_first_other : {A : Type 0} (other test : A → Bool) (new : A) (xs : List A) → other new ≡ false → ((x : A) → test x ≡ true → other x ≡ false) → find other (put_first test new xs) ≡ find other xs
+find-put_first_other other test new xs fails apart =
+    ⊎_elim (λ h. ap (find other) (cond-true (list_any test xs) (put_by test new xs) (new ∷ xs) h) ∙ find-put_by_other other test new xs fails apart) (λ h. ap (find other) (cond-false (list_any test xs) (put_by test new xs) (new ∷ xs) h) ∙ find-behind other new xs fails) (cases_Bool (list_any test xs))
+
 is_kind-same : (kind : PlanType) → is_kind kind kind ≡ true
 is_kind-same Mission = refl
 is_kind-same Fence = refl
@@ -69,13 +80,13 @@ pub draft_of-with_written : (drafts : List DraftState) (kind : PlanType) (id : �
 draft_of-with_written drafts kind id item =
     let new : DraftState = record { kind = kind; id = id; items = draft_of drafts kind id ++ item ∷ [] } in
     let passes : is_draft kind id new ≡ true = and_from _ _ (is_kind-same kind) (eq-eqb id id refl) in
-    ap items_of (find-put_by (is_draft kind id) new drafts passes)
+    ap items_of (find-put_first (is_draft kind id) new drafts passes)
 
 -- a draft of another kind or id stays
 pub draft_of-with_other : (drafts : List DraftState) (kind : PlanType) (id : ℕ) (item : Item) (other_kind : PlanType) (other_id : ℕ) → is_draft other_kind other_id (record { kind = kind; id = id; items = [] }) ≡ false → draft_of (with_written drafts kind id item) other_kind other_id ≡ draft_of drafts other_kind other_id
 draft_of-with_other drafts kind id item other_kind other_id differs =
     let new : DraftState = record { kind = kind; id = id; items = draft_of drafts kind id ++ item ∷ [] } in
-    ap items_of (find-put_by_other (is_draft other_kind other_id) (is_draft kind id) new drafts differs (λ draft passes. let is = is_draft-true kind id draft passes in rw (is.0, is.1) differs))
+    ap items_of (find-put_first_other (is_draft other_kind other_id) (is_draft kind id) new drafts differs (λ draft passes. let is = is_draft-true kind id draft passes in rw (is.0, is.1) differs))
 
 -- a link's request that is served is its last served one
 pub last_served-with_served : (served : List ServedState) (link : ℕ) (asked : Asked) (reply : Reply) → last_served (with_served served (client.Link link) asked reply) link ≡ Some (record { link = link; asked = asked; reply = reply })

@@ -1,7 +1,17 @@
 pub mod PlanState
+pub mod Drafts
 pub mod VehicleState
+pub mod Boots
+pub mod Requests
+pub mod Messages
+pub mod MissionEvents
+pub mod ReturnEvents
 pub mod VehicleStep
 pub mod VehicleRun
+pub mod ToldRun
 pub mod OneVehicle
+pub mod SamePlans
 pub mod Kept
+pub mod PlansState
+pub mod Looked
 pub mod CheckState

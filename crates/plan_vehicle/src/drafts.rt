@@ -2,10 +2,11 @@
 
 ghost use Rattle.std.specs.Prelude.{◌≡◌, ◌++◌, ◌∷◌, [], ◌↔◌, ◌<◌, IfOk, OnOk, IsTrue, true, length};
 ghost use Rattle.std.specs.List.{position};
-ghost use Rattle.plan_vehicle.specs.PlanState.{is_draft, draft_of, with_written};
+ghost use Rattle.plan_vehicle.specs.Drafts.{is_draft, draft_of, with_written};
 
 use mission_model::{Item, PlanType};
 use std::alloc::{AllocError, Global};
+use std::collections::VecDeque;
 use std::marker::Model;
 
 /// The items that were written of one draft.
@@ -17,7 +18,7 @@ struct Draft {
 }
 
 impl Model for Draft {
-    ghost use Rattle.plan_vehicle.specs.PlanState.{DraftState};
+    ghost use Rattle.plan_vehicle.specs.Drafts.{DraftState};
 
     ghost Value = { DraftState };
 
@@ -59,15 +60,15 @@ impl Draft {
     }
 }
 
-/// All drafts of a boot.
+/// All drafts of a boot, the newest first: that is where the next item mostly goes.
 #[derive(Drop)]
 pub struct Drafts {
-    drafts: Vec<Draft>,
+    drafts: VecDeque<Draft>,
 }
 
 impl Model for Drafts {
     ghost use Rattle.std.specs.Prelude.{List};
-    ghost use Rattle.plan_vehicle.specs.PlanState.{DraftState};
+    ghost use Rattle.plan_vehicle.specs.Drafts.{DraftState};
 
     ghost Value = { List DraftState };
 
@@ -80,7 +81,7 @@ impl Drafts {
         ensures { result ≡ [] }
     {
         Drafts {
-            drafts: Vec::new(alloc),
+            drafts: VecDeque::new(alloc),
         }
     }
 
@@ -106,7 +107,9 @@ impl Drafts {
     {
         match self.place(kind, id) {
             Some(at) => self.drafts[at].push(item)?,
-            None => self.drafts.push(Draft::begun(alloc, kind, id, item)?)?,
+            None => self
+                .drafts
+                .push_front(Draft::begun(alloc, kind, id, item)?)?,
         }
         Ok(())
     }

@@ -1,9 +1,10 @@
 //! A plan as the lines of a record show it: its id, and its items as far as they are told.
 
-ghost use Rattle.std.specs.Prelude.{◌≡◌, ◌<◌, ◌↔◌, IfOk, IsTrue, length, map, Some, None, take, replicate};
-ghost use Rattle.plan_vehicle.specs.PlanState.{untold, told, told_at, with_told, CanBe};
+ghost use Rattle.std.specs.Prelude.{◌≡◌, ◌<◌, ◌↔◌, IfOk, IsTrue, false, length, map, Some, None, take, replicate, MatchOption};
+ghost use Rattle.plan_vehicle.specs.PlanState.{untold, told, told_at, with_told, told_items, plan_head, IsKnown, CanBe};
+ghost use Rattle.plan_vehicle.specs.VehicleState.{no_plan};
 
-use mission_model::{Item, PlanHead, is_same_item};
+use mission_model::{Item, PlanHead, PlanType, check_plan, is_same_item};
 use std::alloc::{AllocError, Global};
 use std::marker::Model;
 
@@ -23,6 +24,16 @@ impl Model for Plan {
 }
 
 impl Plan {
+    /// No plan.
+    pub fn none(alloc: Global) -> Plan
+        ensures { result ≡ no_plan }
+    {
+        Plan {
+            id: 0,
+            items: Vec::new(alloc),
+        }
+    }
+
     /// The plan of a head, with no item told.
     pub fn untold(alloc: Global, head: PlanHead) -> Result<Plan, AllocError>
         ensures { IfOk result (λ plan. plan ≡ untold head) }
@@ -57,6 +68,13 @@ impl Plan {
         self.items.len()
     }
 
+    /// Whether this is the plan's head.
+    pub fn has_head(&self, head: PlanHead) -> bool
+        ensures { IsTrue result ↔ (plan_head self.now ≡ head) }
+    {
+        self.id == head.id && self.items.len() == usize::from(head.count)
+    }
+
     /// The item at a seq, where it is told.
     pub fn item(&self, seq: u16) -> Option<Item>
         ensures { result ≡ told_at self.now seq }
@@ -75,12 +93,44 @@ impl Plan {
         }
     }
 
-    /// Tells the item at a seq.
-    pub fn tell(&mut self, seq: u16, item: Item)
-        requires { seq < length self.old.items }
-        ensures { self.new ≡ with_told self.old seq item }
+    /// Tells the item at a seq, and says whether that is news.
+    pub fn tell(&mut self, seq: u16, item: Item) -> bool
+        requires within { seq < length self.old.items }
+        requires item_is { CanBe (told_at self.old seq) item }
+        ensures told { self.new ≡ with_told self.old seq item }
+        ensures known { result ≡ false → self.new ≡ self.old }
     {
+        if self.items[seq as usize].is_some() {
+            return false;
+        }
         self.items[seq as usize] = Some(item);
+        true
+    }
+}
+
+impl Plan {
+    /// The items, where all are told and they are a valid plan of this type.
+    pub fn known(&self, alloc: Global, kind: PlanType) -> Result<Option<Vec<Item>>, AllocError>
+        ensures { IfOk result (λ known. MatchOption known (IsKnown kind self.now → ⊥) (λ items. IsKnown kind self.now × (items.items ≡ told_items self.now))) }
+    {
+        match self.all_told(alloc)? {
+            Some(items) if check_plan(kind, items.as_slice()).is_ok() => Ok(Some(items)),
+            _ => Ok(None),
+        }
+    }
+
+    /// The items, where all are told.
+    fn all_told(&self, alloc: Global) -> Result<Option<Vec<Item>>, AllocError>
+        ensures { IfOk result (λ known. MatchOption known (self.now.items ≡ map (λ item. Some item) (told_items self.now) → ⊥) (λ items. (self.now.items ≡ map (λ item. Some item) (told_items self.now)) × (items.items ≡ told_items self.now))) }
+    {
+        let mut items = Vec::with_capacity(alloc, self.items.len())?;
+        for item in &self.items {
+            match item {
+                Some(item) => items.push(*item)?,
+                None => return Ok(None),
+            }
+        }
+        Ok(Some(items))
     }
 }
 

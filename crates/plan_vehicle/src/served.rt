@@ -3,7 +3,7 @@
 ghost use Rattle.std.specs.Prelude.{◌≡◌, ◌++◌, ◌∷◌, [], ◌==◌, IfOk};
 ghost use Rattle.std.specs.List.{position};
 ghost use Rattle.std.specs.Option.{option_map};
-ghost use Rattle.plan_vehicle.specs.VehicleState.{with_served, last_served, is_of_link, reply_of};
+ghost use Rattle.plan_vehicle.specs.Requests.{with_served, last_served, is_of_link, reply_of};
 
 use mission_model::{Asked, Client, Reply};
 use std::alloc::{AllocError, Global};

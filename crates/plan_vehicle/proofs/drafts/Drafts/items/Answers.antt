@@ -1,5 +1,5 @@
 use Rattle.std.proofs.Common.{◌≡◌, sym, ap, ◌∙◌, get_or}
-use Rattle.plan_vehicle.specs.PlanState.{DraftState}
+use Rattle.plan_vehicle.specs.Drafts.{DraftState}
 use Rattle.plan_vehicle.proofs.Writing.{draft_of-Some, draft_of-None}
 use Rattle.plan_vehicle.proofs.drafts.Drafts.items.Goals as goal
 

@@ -1,5 +1,5 @@
 use Rattle.std.proofs.Common.{◌≡◌, sym, ap, ◌∙◌, get_or}
-use Rattle.plan_vehicle.specs.PlanState.{DraftState}
+use Rattle.plan_vehicle.specs.Drafts.{DraftState}
 use Rattle.plan_vehicle.proofs.Writing.{with_written-Some, with_written-None}
 use Rattle.plan_vehicle.proofs.drafts.Drafts.write.Goals as goal
 
@@ -10,7 +10,7 @@ returns-in_ok-push-in-Some c =
     let written = with_written-Some c.args.kind c.args.id c.args.item c.args.self.now c.in-Some.at draft (sym c.place.ensures ∙ c.in-Some.is) at in
     rw (c.in_ok-push-in-Some.ensures, c.self.view_is) (sym written)
 
-pub returns-in_ok-push-in-None : goal.returns-in_ok-push-in-None
-returns-in_ok-push-in-None c =
+pub returns-in_ok-push_front-in-None : goal.returns-in_ok-push_front-in-None
+returns-in_ok-push_front-in-None c =
     let written = with_written-None c.args.kind c.args.id c.args.item c.args.self.now (sym c.place.ensures ∙ c.in-None.is) in
-    rw (c.in_ok-push-in-None.ensures.items, c.in_ok-begun-in-None.ensures, c.self.view_is) (sym written)
+    rw (c.in_ok-push_front-in-None.ensures.items, c.in_ok-begun-in-None.ensures, c.self.view_is) (sym written)

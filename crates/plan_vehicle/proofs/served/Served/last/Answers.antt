@@ -1,6 +1,7 @@
 use Rattle.std.proofs.Common.{◌≡◌, sym, ap, ◌∙◌, refl, get_or}
 use Rattle.std.specs.Option.{option_map}
-use Rattle.plan_vehicle.specs.VehicleState.{ServedState, is_of_link, reply_of}
+use Rattle.plan_vehicle.specs.VehicleState.{ServedState}
+use Rattle.plan_vehicle.specs.Requests.{is_of_link, reply_of}
 use Rattle.plan_vehicle.proofs.FirstBy.{find-Some, find-None}
 use Rattle.plan_vehicle.proofs.served.Served.last.Goals as goal
 

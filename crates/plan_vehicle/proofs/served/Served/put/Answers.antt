@@ -1,5 +1,6 @@
 use Rattle.std.proofs.Common.{sym, ◌∙◌}
-use Rattle.plan_vehicle.specs.VehicleState.{ServedState, is_of_link}
+use Rattle.plan_vehicle.specs.VehicleState.{ServedState}
+use Rattle.plan_vehicle.specs.Requests.{is_of_link}
 use Rattle.plan_vehicle.proofs.FirstBy.{put_by-Some, put_by-None}
 use Rattle.plan_vehicle.proofs.served.Served.put.Goals as goal
 

@@ -1,0 +1,5 @@
+use Rattle.std.proofs.lemmas.Result.{IfOk-weaker}
+use Rattle.plan_vehicle.proofs.vehicle.Vehicle.leads_home.Goals as goal
+
+pub returns-clause-no : goal.returns-clause-no
+returns-clause-no c = IfOk-weaker c.shows.result _ _ (λ yes' fails is v h. fails is v h.1) c.shows.ensures.no
