@@ -1,7 +1,7 @@
 -- One more text joined to those of the elements before a place.
-use Rattle.std.proofs.Common.{◌≡◌, ℕ, ◌+◌, Some, List, [], ◌∷◌, ◌++◌, take, get_or, ◌∙◌, ap, append-nil, append_assoc, Result, OnOk}
-use Rattle.std.specs.List.{slice_get, flat_map}
-use Rattle.std.proofs.lemmas.List.{take_more}
+use Rattle.std.proofs.Common.{◌≡◌, ℕ, ◌+◌, ◌≤◌, length, Some, List, [], ◌∷◌, ◌++◌, take, get_or, ◌∙◌, ap, subst, append-nil, append_assoc, Result, OnOk}
+use Rattle.std.specs.List.{slice_get, flat_map, AllByRecursion}
+use Rattle.std.proofs.lemmas.List.{take_more, take_all}
 use Rattle.std.proofs.lemmas.Result.{on_ok_weaker}
 use Rattle.std.proofs.lemmas.List.Concat.{flat_map-append}
 use Rattle.std.proofs.lemmas.Option.{get_or_from_slice_get, slice_get_within}
@@ -22,3 +22,28 @@ pub pushed_after : {T E : Type 0} (r : Result T E) (old mid new first rest : Lis
     → mid ≡ old ++ first → OnOk r (new ≡ mid ++ rest) → OnOk r (new ≡ old ++ (first ++ rest))
 pushed_after r old mid new first rest front behind =
     on_ok_weaker r (λ h. h ∙ ap (λ t. t ++ rest) front ∙ append_assoc old first rest) behind
+
+-- parts of a text that are joined one after the other, joined from the last on
+pub join-4 : (a b c d e : List ℕ) → (((a ++ b) ++ c) ++ d) ++ e ≡ a ++ (b ++ (c ++ (d ++ e)))
+join-4 a b c d e = simp append_assoc
+
+pub join-5 : (a b c d e f : List ℕ) → ((((a ++ b) ++ c) ++ d) ++ e) ++ f ≡ a ++ (b ++ (c ++ (d ++ (e ++ f))))
+join-5 a b c d e f = simp append_assoc
+
+pub join-6 : (a b c d e f g : List ℕ) → (((((a ++ b) ++ c) ++ d) ++ e) ++ f) ++ g ≡ a ++ (b ++ (c ++ (d ++ (e ++ (f ++ g)))))
+join-6 a b c d e f g = simp append_assoc
+
+-- what holds of the elements before a place and of the one there holds of those before the next place
+all-push : {X : Type 0} (P : X → Type 0) (xs : List X) (x : X) → AllByRecursion P xs → P x → AllByRecursion P (xs ++ x ∷ [])
+all-push P [] x before there = (there, tt)
+all-push P (y ∷ ys) x before there = (before.0, all-push P ys x before.1 there)
+
+pub all-take_more : {X : Type 0} (P : X → Type 0) (xs : List X) (i : ℕ) (x : X)
+    → slice_get xs i ≡ Some x → AllByRecursion P (take i xs) → P x → AllByRecursion P (take (i + 1) xs)
+all-take_more P xs i x there before fits =
+    let more = take_more xs i x (slice_get_within xs i x there) in
+    let same = get_or_from_slice_get xs i x x there in
+    rw (more, same) (all-push P (take i xs) x before fits)
+
+pub all-take_all : {X : Type 0} (P : X → Type 0) (xs : List X) (i : ℕ) → length xs ≤ i → AllByRecursion P (take i xs) → AllByRecursion P xs
+all-take_all P xs i all before = subst (AllByRecursion P) (take_all i xs all) before

@@ -1,1 +1,9 @@
-mod Joined
+pub mod Joined
+pub mod Numbers
+pub mod PlanLaws
+pub mod CountsLaws
+pub mod RequestLaws
+pub mod MessageLaws
+pub mod VehicleLaws
+pub mod LineLaws
+pub mod RecordLaws

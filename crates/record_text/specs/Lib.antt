@@ -4,3 +4,12 @@ pub mod Messages
 pub mod Vehicle
 pub mod Watch
 pub mod Record
+pub mod Numbers
+pub mod PlanReading
+pub mod CountsReading
+pub mod RequestReading
+pub mod MessageReading
+pub mod VehicleReading
+pub mod LineReading
+pub mod Typed
+pub mod Read

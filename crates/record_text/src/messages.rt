@@ -5,7 +5,7 @@ ghost use Rattle.record_text.specs.Messages.{IsTypeNumber, IsPrintableSaid, type
 
 use crate::plans::push_item;
 use crate::requests::push_place_in_plan;
-use crate::text::Text;
+use crate::text::{push_number, push_signed, push_word};
 use mission_model::{AckCode, Answer, Said};
 use std::alloc::AllocError;
 
@@ -34,44 +34,44 @@ pub(crate) fn is_printable_said(said: &Said) -> bool
     }
 }
 
-fn push_type(out: &mut Text, kind: u8) -> Result<(), AllocError>
+fn push_type(out: &mut Vec<u8>, kind: u8) -> Result<(), AllocError>
     requires { IsTypeNumber kind }
-    ensures { OnOk result (out.new ≡ out.old ++ type_text kind) }
+    ensures { OnOk result (out.new.items ≡ out.old.items ++ type_text kind) }
 {
     match kind {
-        MISSION => out.push(b"mission"),
-        FENCE => out.push(b"fence"),
-        SAFE => out.push(b"safe"),
-        ALL_PLANS => out.push(b"all"),
+        MISSION => push_word(out, b"mission"),
+        FENCE => push_word(out, b"fence"),
+        SAFE => push_word(out, b"safe"),
+        ALL_PLANS => push_word(out, b"all"),
         _ => unreachable!(),
     }
 }
 
-pub(crate) fn push_said(out: &mut Text, said: &Said) -> Result<(), AllocError>
+pub(crate) fn push_said(out: &mut Vec<u8>, said: &Said) -> Result<(), AllocError>
     requires { IsPrintableSaid said.now }
-    ensures { OnOk result (out.new ≡ out.old ++ said_text said.now) }
+    ensures { OnOk result (out.new.items ≡ out.old.items ++ said_text said.now) }
 {
     match said {
         Said::Count { kind, count } => {
-            out.push(b"count ")?;
+            push_word(out, b"count ")?;
             push_type(out, *kind)?;
-            out.push(b" ")?;
-            out.push_number(*count as u64)
+            push_word(out, b" ")?;
+            push_number(out, *count as u64)
         }
         Said::Item(seq) => {
-            out.push(b"item ")?;
-            out.push_number(*seq as u64)
+            push_word(out, b"item ")?;
+            push_number(out, *seq as u64)
         }
         Said::ClearAll(kind) => {
-            out.push(b"clear ")?;
+            push_word(out, b"clear ")?;
             push_type(out, *kind)
         }
         Said::SetCurrent(seq) => {
-            out.push(b"set-current ")?;
-            out.push_number(*seq as u64)
+            push_word(out, b"set-current ")?;
+            push_number(out, *seq as u64)
         }
-        Said::Cancel => out.push(b"cancel"),
-        Said::Timeout => out.push(b"timeout"),
+        Said::Cancel => push_word(out, b"cancel"),
+        Said::Timeout => push_word(out, b"timeout"),
     }
 }
 
@@ -81,21 +81,21 @@ fn number_of(code: AckCode) -> u64
     code as u64
 }
 
-pub(crate) fn push_answer(out: &mut Text, answer: &Answer) -> Result<(), AllocError>
-    ensures { OnOk result (out.new ≡ out.old ++ answer_text answer.now) }
+pub(crate) fn push_answer(out: &mut Vec<u8>, answer: &Answer) -> Result<(), AllocError>
+    ensures { OnOk result (out.new.items ≡ out.old.items ++ answer_text answer.now) }
 {
     match answer {
         Answer::RequestInt(seq) => {
-            out.push(b"request ")?;
-            out.push_number(*seq as u64)
+            push_word(out, b"request ")?;
+            push_number(out, *seq as u64)
         }
         Answer::Ack(code) => {
-            out.push(b"ack ")?;
-            out.push_number(number_of(*code))
+            push_word(out, b"ack ")?;
+            push_number(out, number_of(*code))
         }
         Answer::CurrentIs(seq) => {
-            out.push(b"current ")?;
-            out.push_number(*seq as u64)
+            push_word(out, b"current ")?;
+            push_number(out, *seq as u64)
         }
         Answer::Writes {
             kind,
@@ -103,15 +103,15 @@ pub(crate) fn push_answer(out: &mut Text, answer: &Answer) -> Result<(), AllocEr
             seq,
             item,
         } => {
-            out.push(b"write ")?;
+            push_word(out, b"write ")?;
             push_place_in_plan(out, *kind, *id, *seq)?;
-            out.push(b" ")?;
+            push_word(out, b" ")?;
             push_item(out, item)
         }
         Answer::Commits { kind, id, count } => {
-            out.push(b"commit ")?;
+            push_word(out, b"commit ")?;
             push_place_in_plan(out, *kind, *id, *count)
         }
-        Answer::Nothing => out.push(b"none"),
+        Answer::Nothing => push_word(out, b"none"),
     }
 }

@@ -8,7 +8,7 @@ ghost use Rattle.mission_model.specs.declared.flight_line.Line.TheVariants as li
 use crate::messages::{is_printable_said, push_answer, push_said};
 use crate::plans::{push_head, push_kind, push_pairs};
 use crate::requests::{push_asked, push_client, push_reply};
-use crate::text::Text;
+use crate::text::{push_number, push_signed, push_word};
 use crate::vehicle::{push_event, push_what};
 use crate::watch::{push_note, push_watch_input};
 use mission_model::{
@@ -17,136 +17,141 @@ use mission_model::{
 };
 use std::alloc::{AllocError, Global};
 
-fn push_heads(out: &mut Text, heads: &[PlanHead; 3]) -> Result<(), AllocError>
-    ensures { OnOk result (out.new ≡ out.old ++ heads_text heads.now) }
+fn push_heads(out: &mut Vec<u8>, heads: &[PlanHead; 3]) -> Result<(), AllocError>
+    ensures { OnOk result (out.new.items ≡ out.old.items ++ heads_text heads.now) }
 {
     let [mission, fence, safe] = heads;
-    out.push(b" mission ")?;
+    push_word(out, b" mission ")?;
     push_head(out, mission)?;
-    out.push(b" fence ")?;
+    push_word(out, b" fence ")?;
     push_head(out, fence)?;
-    out.push(b" safe ")?;
+    push_word(out, b" safe ")?;
     push_head(out, safe)
 }
 
 fn push_boot(
-    out: &mut Text,
+    out: &mut Vec<u8>,
     number: u16,
     heads: &[PlanHead; 3],
     mark: &Mark,
 ) -> Result<(), AllocError>
-    ensures { OnOk result (out.new ≡ out.old ++ words_text (line.Boot number heads.now mark.now)) }
+    ensures { OnOk result (out.new.items ≡ out.old.items ++ words_text (line.Boot number heads.now mark.now)) }
 {
-    out.push(b"boot ")?;
-    out.push_number(number as u64)?;
+    push_word(out, b"boot ")?;
+    push_number(out, number as u64)?;
     push_heads(out, heads)?;
-    out.push(b" at ")?;
-    out.push_number(mark.index as u64)?;
+    push_word(out, b" at ")?;
+    push_number(out, mark.index as u64)?;
     push_pairs(out, &mark.counts)
 }
 
-fn push_at_place(out: &mut Text, client: &Client, word: &[u8], place: u8) -> Result<(), AllocError>
-    ensures { OnOk result (out.new ≡ out.old ++ at_place_text client.now word.now place) }
+fn push_at_place(
+    out: &mut Vec<u8>,
+    client: &Client,
+    word: &[u8],
+    place: u8,
+) -> Result<(), AllocError>
+    ensures { OnOk result (out.new.items ≡ out.old.items ++ at_place_text client.now word.now place) }
 {
     push_client(out, client)?;
-    out.push(word)?;
-    out.push_number(place as u64)
+    push_word(out, word)?;
+    push_number(out, place as u64)
 }
 
-fn push_sent(out: &mut Text, link: u8, said: &Said, answer: &Answer) -> Result<(), AllocError>
+fn push_sent(out: &mut Vec<u8>, link: u8, said: &Said, answer: &Answer) -> Result<(), AllocError>
     requires { IsPrintableSaid said.now }
-    ensures { OnOk result (out.new ≡ out.old ++ words_text (line.Sent link said.now answer.now)) }
+    ensures { OnOk result (out.new.items ≡ out.old.items ++ words_text (line.Sent link said.now answer.now)) }
 {
-    out.push(b"link ")?;
-    out.push_number(link as u64)?;
-    out.push(b" ")?;
+    push_word(out, b"link ")?;
+    push_number(out, link as u64)?;
+    push_word(out, b" ")?;
     push_said(out, said)?;
-    out.push(b" > ")?;
+    push_word(out, b" > ")?;
     push_answer(out, answer)
 }
 
-fn push_heard(out: &mut Text, link: u8, reply: &Reply, answer: &Answer) -> Result<(), AllocError>
-    ensures { OnOk result (out.new ≡ out.old ++ words_text (line.Heard link reply.now answer.now)) }
+fn push_heard(out: &mut Vec<u8>, link: u8, reply: &Reply, answer: &Answer) -> Result<(), AllocError>
+    ensures { OnOk result (out.new.items ≡ out.old.items ++ words_text (line.Heard link reply.now answer.now)) }
 {
-    out.push(b"link ")?;
-    out.push_number(link as u64)?;
-    out.push(b" hears ")?;
+    push_word(out, b"link ")?;
+    push_number(out, link as u64)?;
+    push_word(out, b" hears ")?;
     push_reply(out, reply)?;
-    out.push(b" > ")?;
+    push_word(out, b" > ")?;
     push_answer(out, answer)
 }
 
-fn push_took(out: &mut Text, client: &Client, asked: &Asked) -> Result<(), AllocError>
-    ensures { OnOk result (out.new ≡ out.old ++ words_text (line.Took client.now asked.now)) }
+fn push_took(out: &mut Vec<u8>, client: &Client, asked: &Asked) -> Result<(), AllocError>
+    ensures { OnOk result (out.new.items ≡ out.old.items ++ words_text (line.Took client.now asked.now)) }
 {
-    out.push(b"worker takes ")?;
+    push_word(out, b"worker takes ")?;
     push_client(out, client)?;
-    out.push(b" ")?;
+    push_word(out, b" ")?;
     push_asked(out, asked)
 }
 
-fn push_served(out: &mut Text, client: &Client, reply: &Reply) -> Result<(), AllocError>
-    ensures { OnOk result (out.new ≡ out.old ++ words_text (line.Served client.now reply.now)) }
+fn push_served(out: &mut Vec<u8>, client: &Client, reply: &Reply) -> Result<(), AllocError>
+    ensures { OnOk result (out.new.items ≡ out.old.items ++ words_text (line.Served client.now reply.now)) }
 {
-    out.push(b"worker serves ")?;
+    push_word(out, b"worker serves ")?;
     push_client(out, client)?;
-    out.push(b" ")?;
+    push_word(out, b" ")?;
     push_reply(out, reply)
 }
 
-fn push_got(out: &mut Text, asked: &Asked, reply: &Reply) -> Result<(), AllocError>
-    ensures { OnOk result (out.new ≡ out.old ++ got_text asked.now reply.now) }
+fn push_got(out: &mut Vec<u8>, asked: &Asked, reply: &Reply) -> Result<(), AllocError>
+    ensures { OnOk result (out.new.items ≡ out.old.items ++ got_text asked.now reply.now) }
 {
-    out.push(b"got ")?;
+    push_word(out, b"got ")?;
     push_asked(out, asked)?;
-    out.push(b" ")?;
+    push_word(out, b" ")?;
     push_reply(out, reply)
 }
 
-fn push_asks(out: &mut Text, number: u8) -> Result<(), AllocError>
-    ensures { OnOk result (out.new ≡ out.old ++ asks_text number) }
+fn push_asks(out: &mut Vec<u8>, number: u8) -> Result<(), AllocError>
+    ensures { OnOk result (out.new.items ≡ out.old.items ++ asks_text number) }
 {
-    out.push(b" asks ")?;
-    out.push_number(number as u64)
+    push_word(out, b" asks ")?;
+    push_number(out, number as u64)
 }
 
-fn push_nav(out: &mut Text, event: &VehicleLine, entry: &NavEntry) -> Result<(), AllocError>
-    ensures { OnOk result (out.new ≡ out.old ++ words_text (line.Nav event.now entry.now)) }
+fn push_nav(out: &mut Vec<u8>, event: &VehicleLine, entry: &NavEntry) -> Result<(), AllocError>
+    ensures { OnOk result (out.new.items ≡ out.old.items ++ words_text (line.Nav event.now entry.now)) }
 {
-    out.push(b"nav ")?;
+    push_word(out, b"nav ")?;
     push_event(out, event)?;
-    out.push(b" > ")?;
+    push_word(out, b" > ")?;
     push_what(out, &entry.what)?;
     push_asks(out, entry.asked)
 }
 
-fn push_told(out: &mut Text, note: &Note, asks: u8) -> Result<(), AllocError>
-    ensures { OnOk result (out.new ≡ out.old ++ told_text note.now asks) }
+fn push_told(out: &mut Vec<u8>, note: &Note, asks: u8) -> Result<(), AllocError>
+    ensures { OnOk result (out.new.items ≡ out.old.items ++ told_text note.now asks) }
 {
-    out.push(b" > note ")?;
+    push_word(out, b" > note ")?;
     push_note(out, note)?;
     push_asks(out, asks)
 }
 
 fn push_watch_did(
-    out: &mut Text,
+    out: &mut Vec<u8>,
     watch: u8,
     input: &WatchInput,
     note: &Note,
     asked: u8,
 ) -> Result<(), AllocError>
     ensures { OnOk result (
-        out.new ≡ out.old ++ words_text (line.WatchDid watch input.now note.now asked)) }
+        out.new.items ≡ out.old.items ++ words_text (line.WatchDid watch input.now note.now asked)) }
 {
-    out.push(b"watch ")?;
-    out.push_number(watch as u64)?;
-    out.push(b" does ")?;
+    push_word(out, b"watch ")?;
+    push_number(out, watch as u64)?;
+    push_word(out, b" does ")?;
     push_watch_input(out, input)?;
     push_told(out, note, asked)
 }
 
 fn push_watch_got(
-    out: &mut Text,
+    out: &mut Vec<u8>,
     watch: u8,
     asked: &Asked,
     reply: &Reply,
@@ -154,31 +159,31 @@ fn push_watch_got(
     asks: u8,
 ) -> Result<(), AllocError>
     ensures { OnOk result (
-        out.new ≡ out.old ++ words_text (line.WatchGot watch asked.now reply.now note.now asks)) }
+        out.new.items ≡ out.old.items ++ words_text (line.WatchGot watch asked.now reply.now note.now asks)) }
 {
-    out.push(b"watch ")?;
-    out.push_number(watch as u64)?;
-    out.push(b" ")?;
+    push_word(out, b"watch ")?;
+    push_number(out, watch as u64)?;
+    push_word(out, b" ")?;
     push_got(out, asked, reply)?;
     push_told(out, note, asks)
 }
 
 /// The words of the Navigator's and of a watcher's line.
-fn push_reading(out: &mut Text, line: &Line) -> Result<(), AllocError>
+fn push_reading(out: &mut Vec<u8>, line: &Line) -> Result<(), AllocError>
     requires { IsOfReader line.now }
-    ensures { OnOk result (out.new ≡ out.old ++ words_text line.now) }
+    ensures { OnOk result (out.new.items ≡ out.old.items ++ words_text line.now) }
 {
     match line {
         Line::Got { asked, reply } => {
-            out.push(b"nav ")?;
+            push_word(out, b"nav ")?;
             push_got(out, asked, reply)
         }
         Line::Nav { input, entry } => push_nav(out, input, entry),
         Line::Dropped { kind, seq } => {
-            out.push(b"nav drop ")?;
+            push_word(out, b"nav drop ")?;
             push_kind(out, *kind)?;
-            out.push(b" ")?;
-            out.push_number(*seq as u64)
+            push_word(out, b" ")?;
+            push_number(out, *seq as u64)
         }
         Line::WatchDid {
             watch,
@@ -197,9 +202,9 @@ fn push_reading(out: &mut Text, line: &Line) -> Result<(), AllocError>
     }
 }
 
-fn push_words(out: &mut Text, line: &Line) -> Result<(), AllocError>
+fn push_words(out: &mut Vec<u8>, line: &Line) -> Result<(), AllocError>
     requires { IsPrintable line.now }
-    ensures { OnOk result (out.new ≡ out.old ++ words_text line.now) }
+    ensures { OnOk result (out.new.items ≡ out.old.items ++ words_text line.now) }
 {
     match line {
         Line::Boot {
@@ -208,15 +213,15 @@ fn push_words(out: &mut Text, line: &Line) -> Result<(), AllocError>
             mark,
         } => push_boot(out, *number, heads, mark),
         Line::BootCut { number } => {
-            out.push(b"boot ")?;
-            out.push_number(*number as u64)?;
-            out.push(b" cut")
+            push_word(out, b"boot ")?;
+            push_number(out, *number as u64)?;
+            push_word(out, b" cut")
         }
         Line::Arrived { client, place } => push_at_place(out, client, b" arrives ", *place),
         Line::Met { client, place } => push_at_place(out, client, b" meets ", *place),
         Line::Waited { client } => {
             push_client(out, client)?;
-            out.push(b" waits")
+            push_word(out, b" waits")
         }
         Line::Sent { link, said, answer } => push_sent(out, *link, said, answer),
         Line::Heard {
@@ -231,17 +236,17 @@ fn push_words(out: &mut Text, line: &Line) -> Result<(), AllocError>
         | Line::Dropped { .. }
         | Line::WatchDid { .. }
         | Line::WatchGot { .. } => push_reading(out, line),
-        Line::End => out.push(b"end"),
-        Line::Stuck => out.push(b"stuck"),
+        Line::End => push_word(out, b"end"),
+        Line::Stuck => push_word(out, b"stuck"),
     }
 }
 
-fn push_line(out: &mut Text, line: &Line) -> Result<(), AllocError>
+fn push_line(out: &mut Vec<u8>, line: &Line) -> Result<(), AllocError>
     requires { IsPrintable line.now }
-    ensures { OnOk result (out.new ≡ out.old ++ line_text_of line.now) }
+    ensures { OnOk result (out.new.items ≡ out.old.items ++ line_text_of line.now) }
 {
     push_words(out, line)?;
-    out.push(b"\n")
+    push_word(out, b"\n")
 }
 
 fn is_on_mission(heads: &[PlanHead; 3], mark: &Mark) -> bool
@@ -263,15 +268,23 @@ pub fn is_printable(line: &Line) -> bool
     }
 }
 
-/// The text of one line, with its LF. Numbers are in the units of the line's types, as 1e-7 degree,
-/// millimetre and thousandth. The only error is want of memory.
+/// Appends the text of a line, with its LF. Numbers are in the units of the line's types, as 1e-7 degree,
+/// millimetre and thousandth. The only error is want of memory, which may leave a part of the text.
+pub fn append_line(out: &mut Vec<u8>, line: &Line) -> Result<(), AllocError>
+    requires { IsPrintable line.now }
+    ensures { OnOk result (out.new.items ≡ out.old.items ++ line_text_of line.now) }
+{
+    push_line(out, line)
+}
+
+/// The text of one line, with its LF. The only error is want of memory.
 pub fn line_text(alloc: Global, line: &Line) -> Result<Vec<u8>, AllocError>
     requires { IsPrintable line.now }
     ensures { IfOk result (λ bytes. LineText line.now bytes.items) }
 {
-    let mut out = Text::new(alloc);
-    push_line(&mut out, line)?;
-    Ok(out.into_vec())
+    let mut out = Vec::new(alloc);
+    append_line(&mut out, line)?;
+    Ok(out)
 }
 
 /// The text of a record: the texts of its lines, one after the other, so that a record that is given
@@ -280,9 +293,9 @@ pub fn record_text(alloc: Global, lines: &[Line]) -> Result<Vec<u8>, AllocError>
     requires { All IsPrintable lines.now }
     ensures { IfOk result (λ bytes. RecordText lines.now bytes.items) }
 {
-    let mut out = Text::new(alloc);
+    let mut out = Vec::new(alloc);
     for line in lines {
-        push_line(&mut out, line)?;
+        append_line(&mut out, line)?;
     }
-    Ok(out.into_vec())
+    Ok(out)
 }

@@ -4,6 +4,7 @@ ghost use Rattle.std.specs.Prelude.{◌↔◌, All, IsTrue};
 ghost use Rattle.record_text.specs.Record.{IsPrintable};
 
 mod forms;
+mod reads;
 
 use crate::{is_printable, line_text, record_text};
 use mission_model::{
@@ -45,6 +46,7 @@ fn expect_texts(rt: &impl Abort, alloc: Global, rows: &[(Line, &str)]) -> Result
         assert!(rt; is_printable(line), "{expected}");
         let text = line_text(alloc, line)?;
         assert!(rt; text.as_slice() == expected.as_bytes(), "{expected}");
+        reads::expect_read_back(rt, alloc, expected.as_bytes(), 1)?;
     }
     Ok(())
 }

@@ -1,60 +1,44 @@
 //! A text that grows at its end: words of bytes, numbers in decimal, and nothing else.
 
-ghost use Rattle.std.specs.Prelude.{◌≡◌, ◌++◌, [], decimal, OnOk};
+ghost use Rattle.std.specs.Prelude.{◌≡◌, ◌++◌, decimal, OnOk};
 ghost use Rattle.std.specs.Fmt.{signed_decimal};
 
 use itoa::Buffer;
-use std::alloc::{AllocError, Global};
-use std::marker::Model;
+use std::alloc::AllocError;
 
-/// The bytes so far.
-#[derive(Drop)]
-pub(crate) struct Text {
-    bytes: Vec<u8>,
-}
-
-impl Model for Text {
-    ghost use Rattle.std.specs.Prelude.{List, ℕ};
-
-    ghost Value = { List ℕ };
-
-    ghost view = { λ text. text.bytes.items };
-}
-
-impl Text {
-    pub fn new(alloc: Global) -> Text
-        ensures { result ≡ [] }
-    {
-        Text {
-            bytes: Vec::new(alloc),
+/// Appends bytes.
+pub(crate) fn push_word(out: &mut Vec<u8>, word: &[u8]) -> Result<(), AllocError>
+    ensures { OnOk result (out.new.items ≡ out.old.items ++ word.now) }
+{
+    match word {
+        [byte] => {
+            out.push(*byte)?;
+            Ok(())
         }
+        _ => out.extend_from_slice(word),
     }
+}
 
-    pub fn into_vec(self) -> Vec<u8>
-        ensures { result.items ≡ self }
-    {
-        self.bytes
+/// Appends a number.
+#[tactic(auto, using(std::proofs::lemmas::Fmt::decimal_digit))]
+pub(crate) fn push_number(out: &mut Vec<u8>, number: u64) -> Result<(), AllocError>
+    ensures { OnOk result (out.new.items ≡ out.old.items ++ decimal number) }
+{
+    if number < 10 {
+        out.push(b'0' + number as u8)?;
+        return Ok(());
     }
+    let mut digits = Buffer::new();
+    out.extend_from_slice(digits.format(number).as_bytes())
+}
 
-    pub fn push(&mut self, word: &[u8]) -> Result<(), AllocError>
-        ensures { OnOk result (self.new ≡ self.old ++ word.now) }
-    {
-        self.bytes.extend_from_slice(word)
+/// Appends a number, with a minus where it is below 0.
+pub(crate) fn push_signed(out: &mut Vec<u8>, number: &i32) -> Result<(), AllocError>
+    ensures { OnOk result (out.new.items ≡ out.old.items ++ signed_decimal number.now) }
+{
+    if *number >= 0 {
+        return push_number(out, *number as u64);
     }
-
-    pub fn push_number(&mut self, number: u64) -> Result<(), AllocError>
-        ensures { OnOk result (self.new ≡ self.old ++ decimal number) }
-    {
-        let mut digits = Buffer::new();
-        self.bytes
-            .extend_from_slice(digits.format(number).as_bytes())
-    }
-
-    pub fn push_signed(&mut self, number: &i32) -> Result<(), AllocError>
-        ensures { OnOk result (self.new ≡ self.old ++ signed_decimal number.now) }
-    {
-        let mut digits = Buffer::new();
-        self.bytes
-            .extend_from_slice(digits.format(*number).as_bytes())
-    }
+    let mut digits = Buffer::new();
+    out.extend_from_slice(digits.format(*number).as_bytes())
 }

@@ -4,96 +4,102 @@ ghost use Rattle.std.specs.Prelude.{◌≡◌, ◌++◌, OnOk};
 ghost use Rattle.record_text.specs.Vehicle.{mode_text, event_text, flown_text, at_text, target_text, taken_text, safe_text, what_text, IsJumpEntry, IsMissionEntry, IsReturnEntry};
 
 use crate::plans::{push_item, push_kind, push_place};
-use crate::text::Text;
+use crate::text::{push_number, push_signed, push_word};
 use mission_model::{Item, Mode, NavWhat, VehicleLine};
 use std::alloc::AllocError;
 
-fn push_mode(out: &mut Text, mode: Mode) -> Result<(), AllocError>
-    ensures { OnOk result (out.new ≡ out.old ++ mode_text mode) }
+fn push_mode(out: &mut Vec<u8>, mode: Mode) -> Result<(), AllocError>
+    ensures { OnOk result (out.new.items ≡ out.old.items ++ mode_text mode) }
 {
     match mode {
-        Mode::Hold => out.push(b"hold"),
-        Mode::Mission => out.push(b"mission"),
-        Mode::Return => out.push(b"return"),
+        Mode::Hold => push_word(out, b"hold"),
+        Mode::Mission => push_word(out, b"mission"),
+        Mode::Return => push_word(out, b"return"),
     }
 }
 
-pub(crate) fn push_event(out: &mut Text, event: &VehicleLine) -> Result<(), AllocError>
-    ensures { OnOk result (out.new ≡ out.old ++ event_text event.now) }
+pub(crate) fn push_event(out: &mut Vec<u8>, event: &VehicleLine) -> Result<(), AllocError>
+    ensures { OnOk result (out.new.items ≡ out.old.items ++ event_text event.now) }
 {
     match event {
-        VehicleLine::Tick => out.push(b"tick"),
-        VehicleLine::Go => out.push(b"go"),
-        VehicleLine::Reached => out.push(b"reached"),
+        VehicleLine::Tick => push_word(out, b"tick"),
+        VehicleLine::Go => push_word(out, b"go"),
+        VehicleLine::Reached => push_word(out, b"reached"),
         VehicleLine::Mode(mode) => {
-            out.push(b"mode ")?;
+            push_word(out, b"mode ")?;
             push_mode(out, *mode)
         }
         VehicleLine::Position { x, y } => {
-            out.push(b"position ")?;
-            out.push_signed(x)?;
-            out.push(b" ")?;
-            out.push_signed(y)
+            push_word(out, b"position ")?;
+            push_signed(out, x)?;
+            push_word(out, b" ")?;
+            push_signed(out, y)
         }
     }
 }
 
-fn push_flown(out: &mut Text, mission: u32, fence: u32) -> Result<(), AllocError>
-    ensures { OnOk result (out.new ≡ out.old ++ flown_text mission fence) }
+fn push_flown(out: &mut Vec<u8>, mission: u32, fence: u32) -> Result<(), AllocError>
+    ensures { OnOk result (out.new.items ≡ out.old.items ++ flown_text mission fence) }
 {
-    out.push(b"mission ")?;
-    out.push_number(mission as u64)?;
-    out.push(b" fence ")?;
-    out.push_number(fence as u64)
+    push_word(out, b"mission ")?;
+    push_number(out, mission as u64)?;
+    push_word(out, b" fence ")?;
+    push_number(out, fence as u64)
 }
 
-fn push_at(out: &mut Text, seq: u16, mission: u32, fence: u32) -> Result<(), AllocError>
-    ensures { OnOk result (out.new ≡ out.old ++ at_text seq mission fence) }
+fn push_at(out: &mut Vec<u8>, seq: u16, mission: u32, fence: u32) -> Result<(), AllocError>
+    ensures { OnOk result (out.new.items ≡ out.old.items ++ at_text seq mission fence) }
 {
-    out.push_number(seq as u64)?;
-    out.push(b" ")?;
+    push_number(out, seq as u64)?;
+    push_word(out, b" ")?;
     push_flown(out, mission, fence)
 }
 
 fn push_target(
-    out: &mut Text,
+    out: &mut Vec<u8>,
     seq: u16,
     mission: u32,
     fence: u32,
     item: &Item,
 ) -> Result<(), AllocError>
-    ensures { OnOk result (out.new ≡ out.old ++ target_text seq mission fence item.now) }
+    ensures { OnOk result (out.new.items ≡ out.old.items ++ target_text seq mission fence item.now) }
 {
     push_at(out, seq, mission, fence)?;
-    out.push(b" ")?;
+    push_word(out, b" ")?;
     push_item(out, item)
 }
 
-fn push_taken(out: &mut Text, seq: u16, to: u16, used: u16) -> Result<(), AllocError>
-    ensures { OnOk result (out.new ≡ out.old ++ taken_text seq to used) }
+fn push_taken(out: &mut Vec<u8>, seq: u16, to: u16, used: u16) -> Result<(), AllocError>
+    ensures { OnOk result (out.new.items ≡ out.old.items ++ taken_text seq to used) }
 {
-    out.push_number(seq as u64)?;
-    out.push(b" to ")?;
-    out.push_number(to as u64)?;
-    out.push(b" used ")?;
-    out.push_number(used as u64)
+    push_number(out, seq as u64)?;
+    push_word(out, b" to ")?;
+    push_number(out, to as u64)?;
+    push_word(out, b" used ")?;
+    push_number(out, used as u64)
 }
 
-fn push_safe(out: &mut Text, seq: u16, safe: u32, fence: u32, item: &Item) -> Result<(), AllocError>
-    ensures { OnOk result (out.new ≡ out.old ++ safe_text seq safe fence item.now) }
+fn push_safe(
+    out: &mut Vec<u8>,
+    seq: u16,
+    safe: u32,
+    fence: u32,
+    item: &Item,
+) -> Result<(), AllocError>
+    ensures { OnOk result (out.new.items ≡ out.old.items ++ safe_text seq safe fence item.now) }
 {
-    out.push_number(seq as u64)?;
-    out.push(b" safe ")?;
-    out.push_number(safe as u64)?;
-    out.push(b" fence ")?;
-    out.push_number(fence as u64)?;
-    out.push(b" ")?;
+    push_number(out, seq as u64)?;
+    push_word(out, b" safe ")?;
+    push_number(out, safe as u64)?;
+    push_word(out, b" fence ")?;
+    push_number(out, fence as u64)?;
+    push_word(out, b" ")?;
     push_item(out, item)
 }
 
-fn push_jump(out: &mut Text, what: &NavWhat) -> Result<(), AllocError>
+fn push_jump(out: &mut Vec<u8>, what: &NavWhat) -> Result<(), AllocError>
     requires { IsJumpEntry what.now }
-    ensures { OnOk result (out.new ≡ out.old ++ what_text what.now) }
+    ensures { OnOk result (out.new.items ≡ out.old.items ++ what_text what.now) }
 {
     match what {
         NavWhat::Jump {
@@ -103,9 +109,9 @@ fn push_jump(out: &mut Text, what: &NavWhat) -> Result<(), AllocError>
             mission,
             fence,
         } => {
-            out.push(b"jump ")?;
+            push_word(out, b"jump ")?;
             push_taken(out, *seq, *to, *used)?;
-            out.push(b" ")?;
+            push_word(out, b" ")?;
             push_flown(out, *mission, *fence)
         }
         NavWhat::JumpSpent {
@@ -113,18 +119,18 @@ fn push_jump(out: &mut Text, what: &NavWhat) -> Result<(), AllocError>
             mission,
             fence,
         } => {
-            out.push(b"jump ")?;
-            out.push_number(*seq as u64)?;
-            out.push(b" spent ")?;
+            push_word(out, b"jump ")?;
+            push_number(out, *seq as u64)?;
+            push_word(out, b" spent ")?;
             push_flown(out, *mission, *fence)
         }
         _ => unreachable!(),
     }
 }
 
-fn push_mission(out: &mut Text, what: &NavWhat) -> Result<(), AllocError>
+fn push_mission(out: &mut Vec<u8>, what: &NavWhat) -> Result<(), AllocError>
     requires { IsMissionEntry what.now }
-    ensures { OnOk result (out.new ≡ out.old ++ what_text what.now) }
+    ensures { OnOk result (out.new.items ≡ out.old.items ++ what_text what.now) }
 {
     match what {
         NavWhat::Leg {
@@ -133,7 +139,7 @@ fn push_mission(out: &mut Text, what: &NavWhat) -> Result<(), AllocError>
             fence,
             item,
         } => {
-            out.push(b"leg ")?;
+            push_word(out, b"leg ")?;
             push_target(out, *seq, *mission, *fence, item)
         }
         NavWhat::Action {
@@ -142,21 +148,21 @@ fn push_mission(out: &mut Text, what: &NavWhat) -> Result<(), AllocError>
             fence,
             item,
         } => {
-            out.push(b"action ")?;
+            push_word(out, b"action ")?;
             push_target(out, *seq, *mission, *fence, item)
         }
         NavWhat::Jump { .. } | NavWhat::JumpSpent { .. } => push_jump(out, what),
         NavWhat::Done { mission, fence } => {
-            out.push(b"done ")?;
+            push_word(out, b"done ")?;
             push_flown(out, *mission, *fence)
         }
         _ => unreachable!(),
     }
 }
 
-fn push_return(out: &mut Text, what: &NavWhat) -> Result<(), AllocError>
+fn push_return(out: &mut Vec<u8>, what: &NavWhat) -> Result<(), AllocError>
     requires { IsReturnEntry what.now }
-    ensures { OnOk result (out.new ≡ out.old ++ what_text what.now) }
+    ensures { OnOk result (out.new.items ≡ out.old.items ++ what_text what.now) }
 {
     match what {
         NavWhat::ReturnLeg {
@@ -165,7 +171,7 @@ fn push_return(out: &mut Text, what: &NavWhat) -> Result<(), AllocError>
             fence,
             item,
         } => {
-            out.push(b"return leg ")?;
+            push_word(out, b"return leg ")?;
             push_target(out, *seq, *mission, *fence, item)
         }
         NavWhat::ReturnSkip {
@@ -173,11 +179,11 @@ fn push_return(out: &mut Text, what: &NavWhat) -> Result<(), AllocError>
             mission,
             fence,
         } => {
-            out.push(b"return skip ")?;
+            push_word(out, b"return skip ")?;
             push_at(out, *seq, *mission, *fence)
         }
         NavWhat::ReturnHome(home) => {
-            out.push(b"return home ")?;
+            push_word(out, b"return home ")?;
             push_place(out, &home.x, &home.y, &home.z)
         }
         NavWhat::ReturnSafe {
@@ -186,17 +192,17 @@ fn push_return(out: &mut Text, what: &NavWhat) -> Result<(), AllocError>
             fence,
             item,
         } => {
-            out.push(b"return safe ")?;
+            push_word(out, b"return safe ")?;
             push_safe(out, *seq, *safe, *fence, item)
         }
-        NavWhat::ReturnNone => out.push(b"return none"),
-        NavWhat::ReturnDone => out.push(b"return done"),
+        NavWhat::ReturnNone => push_word(out, b"return none"),
+        NavWhat::ReturnDone => push_word(out, b"return done"),
         _ => unreachable!(),
     }
 }
 
-pub(crate) fn push_what(out: &mut Text, what: &NavWhat) -> Result<(), AllocError>
-    ensures { OnOk result (out.new ≡ out.old ++ what_text what.now) }
+pub(crate) fn push_what(out: &mut Vec<u8>, what: &NavWhat) -> Result<(), AllocError>
+    ensures { OnOk result (out.new.items ≡ out.old.items ++ what_text what.now) }
 {
     match what {
         NavWhat::Leg { .. }
@@ -205,10 +211,10 @@ pub(crate) fn push_what(out: &mut Text, what: &NavWhat) -> Result<(), AllocError
         | NavWhat::JumpSpent { .. }
         | NavWhat::Done { .. } => push_mission(out, what),
         NavWhat::Pending { kind, seq } => {
-            out.push(b"pending ")?;
+            push_word(out, b"pending ")?;
             push_kind(out, *kind)?;
-            out.push(b" ")?;
-            out.push_number(*seq as u64)
+            push_word(out, b" ")?;
+            push_number(out, *seq as u64)
         }
         NavWhat::Hold {
             rule,
@@ -216,20 +222,20 @@ pub(crate) fn push_what(out: &mut Text, what: &NavWhat) -> Result<(), AllocError
             mission,
             fence,
         } => {
-            out.push(b"hold ")?;
-            out.push_number(*rule as u64)?;
-            out.push(b" ")?;
+            push_word(out, b"hold ")?;
+            push_number(out, *rule as u64)?;
+            push_word(out, b" ")?;
             push_at(out, *seq, *mission, *fence)
         }
-        NavWhat::HoldEmpty => out.push(b"hold empty"),
-        NavWhat::Idle => out.push(b"idle"),
-        NavWhat::Taken => out.push(b"taken"),
+        NavWhat::HoldEmpty => push_word(out, b"hold empty"),
+        NavWhat::Idle => push_word(out, b"idle"),
+        NavWhat::Taken => push_word(out, b"taken"),
         NavWhat::Next(seq) => {
-            out.push(b"next ")?;
-            out.push_number(*seq as u64)
+            push_word(out, b"next ")?;
+            push_number(out, *seq as u64)
         }
-        NavWhat::NextReturn => out.push(b"next return"),
-        NavWhat::Ignored => out.push(b"ignored"),
+        NavWhat::NextReturn => push_word(out, b"next return"),
+        NavWhat::Ignored => push_word(out, b"ignored"),
         _ => push_return(out, what),
     }
 }

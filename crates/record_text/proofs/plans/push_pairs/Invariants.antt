@@ -5,4 +5,4 @@ use Rattle.record_text.specs.Plans.{pairs_text}
 use Rattle.record_text.proofs.plans.push_pairs.Given as goal
 
 abbrev pub invariant-loop-place : goal.invariant-loop-place
-invariant-loop-place l = l.out ≡ l.initial.out ++ pairs_text (take l.place (pairs_of l.counts))
+invariant-loop-place l = l.out.items ≡ l.initial.out.items ++ pairs_text (take l.place (pairs_of l.counts))

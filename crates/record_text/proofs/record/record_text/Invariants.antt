@@ -4,4 +4,4 @@ use Rattle.record_text.specs.Record.{record_text_of}
 use Rattle.record_text.proofs.record.record_text.Given as goal
 
 abbrev pub invariant-loop-line : goal.invariant-loop-line
-invariant-loop-line l = l.out ≡ record_text_of (take l.line-index l.lines)
+invariant-loop-line l = l.out.items ≡ record_text_of (take l.line-index l.lines)
