@@ -1,6 +1,6 @@
 //! The flight: the legs of the mission, the uses of its jumps, and the marks of its place.
 
-ghost use Rattle.std.specs.Prelude.{◌≡◌, ◌<◌, ◌≤◌, ◌⊎◌, ◌+◌, IfOk, IfSome, IfNone, length, [], true, false};
+ghost use Rattle.std.specs.Prelude.{◌≡◌, ◌<◌, ◌≤◌, ◌⊎◌, ◌↔◌, ◌+◌, IsTrue, IfOk, IfSome, IfNone, length, [], true, false};
 ghost use Rattle.mission_model.specs.declared.limits.TheConstants.{MAX_MISSION_ITEMS};
 ghost use Rattle.mission_model.specs.declared.request.Client.TheVariants as client;
 ghost use Rattle.mission_model.specs.CountsList.{pairs_of};
@@ -129,6 +129,14 @@ impl Flight {
         }
         let _ = board.ask(Client::Nav, Request::SetMark(mark));
         self.marks.push(mark);
+    }
+
+    /// Whether each mark that was asked has its reply.
+    #[cfg(test)]
+    pub fn is_quiet(&self) -> bool
+        ensures { IsTrue result ↔ (length self.now.marks.asked ≡ 0) }
+    {
+        self.marks.is_quiet()
     }
 
     /// The mark that was asked first has its reply.

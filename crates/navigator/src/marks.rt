@@ -73,6 +73,14 @@ impl Marks {
         self.asked.push_back(mark);
     }
 
+    /// Whether each mark that was asked has its reply.
+    #[cfg(test)]
+    pub fn is_quiet(&self) -> bool
+        ensures { IsTrue result ↔ (length self.now.asked ≡ 0) }
+    {
+        self.asked.len() == 0
+    }
+
     /// The mark that was asked first has its reply.
     pub fn answered(&mut self, done: bool)
         ensures { self.new ≡ mark_answered self.old done }

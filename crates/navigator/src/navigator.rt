@@ -179,3 +179,6 @@ fn still_owed(
     };
     if is_new { None } else { Some((kind, seq)) }
 }
+
+#[cfg(test)]
+mod tests;
