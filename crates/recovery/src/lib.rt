@@ -6,6 +6,7 @@ mod cells;
 mod fault;
 mod init;
 mod jumps;
+mod migrate;
 mod pass;
 mod plans;
 
