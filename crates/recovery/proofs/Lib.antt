@@ -8,7 +8,3 @@ mod Up
 mod Emptied
 pub mod Marked
 pub mod Repeats
-pub mod NewSlots
-pub mod Behind
-pub mod Copying
-pub mod PutSlots

@@ -3,4 +3,3 @@ pub mod Standing
 pub mod Empty
 pub mod Steps
 pub mod Found
-pub mod Migration

@@ -6,7 +6,6 @@ mod cells;
 mod fault;
 mod init;
 mod jumps;
-mod migrate;
 mod pass;
 mod plans;
 

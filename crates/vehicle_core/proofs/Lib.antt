@@ -1,0 +1,5 @@
+mod Lists
+mod LinkLines
+mod NavLines
+mod WatchLines
+mod Sorting

@@ -1,0 +1,17 @@
+pub mod ScheduleState
+pub mod Seats
+pub mod Told
+pub mod NavTold
+pub mod Ready
+pub mod ActorStep
+pub mod CoreRun
+pub mod Order
+pub mod SharedState
+pub mod ClientSteps
+pub mod WorkerActs
+pub mod LinkActs
+pub mod WatchActs
+pub mod NavActs
+pub mod LocalState
+pub mod Records
+pub mod Steps
