@@ -1,5 +1,0 @@
-mod Lists
-mod LinkLines
-mod NavLines
-mod WatchLines
-mod Sorting
