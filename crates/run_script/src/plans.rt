@@ -1,0 +1,160 @@
+//! Plans in a script: a line `plan ..`, and the text up to the next line `end`.
+
+ghost use Rattle.std.specs.Prelude.{◌≡◌, ◌≤◌, ◌<◌, length, All, IfOk, IfErr, IfSome, MatchOption, MatchResult, None, Some, Ok, Err, position};
+ghost use Rattle.std.specs.List.{list_all};
+ghost use Rattle.nav_text.specs.Spans.{text_of, IsInside};
+ghost use Rattle.run_script.specs.Lines.{word};
+ghost use Rattle.run_script.specs.Plans.{is_name_byte, is_name, new_name, is_end, plan_text, kept_items, PlanStated, IsPlanFault, NamedStated, IsNamedFault, ReadsText, IsTextStop};
+ghost use Rattle.run_script.specs.Gathered.{Leads};
+
+use crate::draft::Draft;
+use crate::fault::{ScriptFault, Stop};
+use crate::forms::plan_named;
+use crate::words::Line;
+use mission_model::limits::{MAX_NAME_BYTES, MAX_PLANS};
+use mission_model::{Items, Name, NamedPlan, PlanType};
+use nav_text::{MAX_TEXT_BYTES, Span, WordCursor};
+use std::alloc::Global;
+use wpl_items::{WplFault, drop_home, read_wpl};
+
+fn is_name_byte(byte: u8) -> bool
+    ensures { result ≡ is_name_byte byte }
+{
+    byte.is_ascii_lowercase() || byte.is_ascii_digit()
+}
+
+fn are_name_bytes(name: &[u8]) -> bool
+    ensures { result ≡ list_all is_name_byte name.now }
+{
+    name.iter().all(|byte| is_name_byte(*byte))
+}
+
+fn is_name(name: &[u8]) -> bool
+    ensures { result ≡ is_name name.now }
+{
+    !name.is_empty() && name.len() <= MAX_NAME_BYTES && are_name_bytes(name)
+}
+
+/// Whether a name is new among these plans, and one more has room.
+#[tactic(auto, unfolding(crate::specs::Plans::new_name))]
+fn new_name(plans: &[NamedPlan], name: &[u8]) -> Result<(), ScriptFault>
+    ensures { MatchResult result (λ _. new_name plans.now name.now ≡ Ok name.now) (λ fault. new_name plans.now name.now ≡ Err fault) }
+{
+    if !is_name(name) || plan_named(plans, name).is_some() {
+        return Err(ScriptFault::Name);
+    }
+    if plans.len() >= MAX_PLANS {
+        return Err(ScriptFault::TooMany);
+    }
+    Ok(())
+}
+
+/// Whether a line ends a plan: its only word is `end`.
+pub(crate) fn is_end(text: &[u8], line: Span) -> bool
+    requires { IsInside text.now line }
+    ensures { result ≡ is_end (text_of text.now line) }
+{
+    let mut words = WordCursor::new(text, line);
+    let first = words.next(text);
+    let second = words.next(text);
+    match (first, second) {
+        (Some(word), None) => &text[word.from as usize..word.to as usize] == b"end".as_slice(),
+        _ => false,
+    }
+}
+
+/// The place of the first line that ends a plan.
+fn end_among(text: &[u8], lines: &[Span]) -> Option<usize>
+    requires { All (IsInside text.now) lines.now }
+    ensures place { result ≡ position (λ line. is_end (text_of text.now line)) lines.now }
+    ensures within { IfSome result (λ place. place < length lines.now) }
+{
+    for (place, line) in lines.iter().enumerate() {
+        if is_end(text, *line) {
+            return Some(place);
+        }
+    }
+    None
+}
+
+/// The text of a plan that one of the lines ends.
+#[tactic(auto, unfolding(crate::specs::Plans::plan_text))]
+fn plan_text<'a>(text: &'a [u8], lines: &[Span]) -> Option<&'a [u8]>
+    requires { All (IsInside text.now) lines.now }
+    ensures text { MatchOption result (plan_text text.now lines.now ≡ None) (λ plan. plan_text text.now lines.now ≡ Some plan.now) }
+    ensures short { IfSome result (λ plan. length plan.now ≤ length text.now) }
+{
+    let place = end_among(text, lines)?;
+    let to = lines[place].from as usize;
+    let from = (lines[0].from as usize).min(to);
+    Some(&text[from..to])
+}
+
+/// The items of a plan's text.
+fn read_items(alloc: Global, text: &[u8]) -> Result<Items, Stop>
+    requires { length text.now ≤ MAX_TEXT_BYTES }
+    ensures good { IfOk result (λ items. ReadsText text.now items) }
+    ensures bad { IfErr result (IsTextStop text.now) }
+{
+    match read_wpl(alloc, text) {
+        Ok(items) => Ok(Items::from_vec(items)),
+        Err(WplFault::Memory(source)) => Err(Stop::Memory(source)),
+        Err(fault) => Err(Stop::Fault(ScriptFault::Plan(fault))),
+    }
+}
+
+/// The items without the home, if the first row is the home.
+fn kept_items(home_first: bool, items: Items) -> Items
+    ensures { result ≡ kept_items home_first items }
+{
+    if !home_first {
+        return items;
+    }
+    let mut rows = items.into_vec();
+    drop_home(&mut rows);
+    Items::from_vec(rows)
+}
+
+/// The plan of a text.
+fn fill(
+    draft: &mut Draft,
+    alloc: Global,
+    name: &[u8],
+    kind: PlanType,
+    home_first: bool,
+    text: &[u8],
+) -> Result<(), Stop>
+    requires { length text.now ≤ MAX_TEXT_BYTES }
+    ensures { Leads (PlanStated home_first kind name.now (Some text.now)) (IsPlanFault (Some text.now)) draft.old result draft.new }
+{
+    let items = kept_items(home_first, read_items(alloc, text)?);
+    let name = Name::from_vec(Vec::from_slice(alloc, name)?);
+    draft.add_plan(NamedPlan { name, kind, items })
+}
+
+/// A line `plan ..`, with these lines behind it.
+pub(crate) fn take_plan(
+    draft: &mut Draft,
+    alloc: Global,
+    text: &[u8],
+    behind: &[Span],
+    kind: PlanType,
+    home_first: bool,
+    name: &[u8],
+) -> Result<(), Stop>
+    requires inside { All (IsInside text.now) behind.now }
+    requires room { length text.now ≤ MAX_TEXT_BYTES }
+    ensures { Leads (NamedStated home_first kind (new_name draft.old.plans name.now) (plan_text text.now behind.now)) (IsNamedFault (new_name draft.old.plans name.now) (plan_text text.now behind.now)) draft.old result draft.new }
+{
+    match new_name(draft.plans(), name) {
+        Ok(()) => {}
+        Err(fault) => return Err(Stop::Fault(fault)),
+    }
+    match plan_text(text, behind) {
+        Some(plan) => fill(draft, alloc, name, kind, home_first, plan),
+        None => {
+            draft.leave_open();
+            Ok(())
+        }
+    }
+}
