@@ -1,7 +1,7 @@
 //! The board: one queue of requests, the one in service, and the replies of each client. All queues are made
 //! in `new` with room for all that the limits let in, so that no later call takes memory.
 
-ghost use Rattle.std.specs.Prelude.{◌≡◌, ℕ, List, ◌+◌, ◌<◌, ◌≤◌, [], ◌∷◌, ◌++◌, length, Some, None, replicate, IsErr, OnOk, OnErr, IfOk, IfNone, IfSome, ◌↔◌};
+ghost use Rattle.std.specs.Prelude.{◌≡◌, ◌≢◌, IsTrue, ℕ, List, ◌+◌, ◌<◌, ◌≤◌, [], ◌∷◌, ◌++◌, length, Some, None, replicate, IsErr, OnOk, OnErr, IfOk, IfNone, IfSome, ◌↔◌};
 ghost use Rattle.mission_model.specs.declared.limits.TheConstants.{MAX_LINKS, MAX_WATCHERS};
 ghost use Rattle.mission_model.specs.declared.request.Client.{Client};
 ghost use Rattle.mission_model.specs.declared.plan.PlanHead.{PlanHead};
@@ -162,6 +162,25 @@ impl Board {
         }?;
         self.counts[seat_of(client)] -= 1;
         Some(first)
+    }
+
+    /// Whether a request waits.
+    pub fn has_waiting(&self) -> bool
+        ensures { IsTrue result ↔ (self.now.waiting ≢ []) }
+    {
+        !self.waiting.is_empty()
+    }
+
+    /// Whether a reply is posted to the client.
+    pub fn has_reply(&self, client: Client) -> bool
+        requires { HasClient self.now client }
+        ensures { IsTrue result ↔ (posted self.now client ≢ []) }
+    {
+        match client {
+            Client::Nav => self.nav.has_some(),
+            Client::Link(number) => self.links[number as usize].has_some(),
+            Client::Watch(number) => self.watchers[number as usize].has_some(),
+        }
     }
 
     /// Keeps the index that a link asked the Navigator to make current, in the place of an earlier one.

@@ -1,6 +1,6 @@
 //! The replies that are posted to one client and not taken yet, the first posted first.
 
-ghost use Rattle.std.specs.Prelude.{◌≡◌, ◌<◌, [], ◌∷◌, ◌++◌, length, IfOk, IfNone, IfSome};
+ghost use Rattle.std.specs.Prelude.{◌≡◌, ◌≢◌, ◌↔◌, IsTrue, ◌<◌, [], ◌∷◌, ◌++◌, length, IfOk, IfNone, IfSome};
 ghost use Rattle.mission_model.specs.declared.limits.TheConstants.{NAV_ROOM};
 
 use circular_buffer::HeapCircularBuffer;
@@ -44,6 +44,13 @@ impl Replies {
         ensures { self.new ≡ self.old ++ (asked, reply) ∷ [] }
     {
         self.ring.push_back((asked, reply));
+    }
+
+    /// Whether a reply is posted.
+    pub fn has_some(&self) -> bool
+        ensures { IsTrue result ↔ (self.now ≢ []) }
+    {
+        !self.ring.is_empty()
     }
 
     /// Takes the first reply away.
