@@ -189,6 +189,21 @@ fn the_last_index_is_taken_once(rt: HostRuntime) -> Result<(), Fail> {
 }
 
 #[test]
+fn what_waits_and_what_is_posted_is_told(rt: HostRuntime) -> Result<(), Fail> {
+    let mut board = Board::new(rt.alloc(), 0, 0, NO_PLANS)?;
+    assert!(rt; !board.has_waiting());
+    assert!(rt; board.ask(Client::Nav, read(1)).is_ok());
+    assert!(rt; board.has_waiting());
+    assert!(rt; !board.has_reply(Client::Nav));
+    serve(&mut board, Reply::Done);
+    assert!(rt; !board.has_waiting());
+    assert!(rt; board.has_reply(Client::Nav));
+    assert!(rt; board.take_reply(Client::Nav).is_some());
+    assert!(rt; !board.has_reply(Client::Nav));
+    Ok(())
+}
+
+#[test]
 fn the_watcher_that_reads_nothing_ends_at_once(rt: HostRuntime) -> Result<(), Fail> {
     let mut watcher = NoWatch;
     let out = begin(&mut watcher, 1);
