@@ -4,6 +4,7 @@ use Rattle.std.proofs.Common.{sym, ap, subst, ◌∙◌, inl, inr, arith, length
 use Rattle.mission_model.specs.declared.plan.Item.{Item}
 use Rattle.mission_model.specs.declared.plan.PlanType.{PlanType}
 use Rattle.client_cache.specs.CacheState.{CacheState, count_of, known_at}
+use Rattle.client_cache.specs.Knowing.{Knows}
 use Rattle.navigator.specs.Uses.{JumpUses}
 use Rattle.navigator.specs.Taking.{can_follow, following, next_of, added, with_next_of, with_up_to, whole_taking}
 
@@ -11,10 +12,6 @@ use Rattle.navigator.specs.Taking.{can_follow, following, next_of, added, with_n
 pub record Begins (items plan : List Item) : Type 0 where
   pub rest : List Item
   pub whole : items ++ rest ≡ plan
-
--- each item that the cache knows is the plan's at its seq
-abbrev pub Knows : CacheState → List Item → Type 0
-Knows c plan = (seq : ℕ) (item : Item) → known_at c seq ≡ Some item → slice_get plan seq ≡ Some item
 
 same_item : {a b : Item} → Some a ≡ Some b → a ≡ b
 same_item h = cc
@@ -33,7 +30,7 @@ some_if : (b : Bool) (item other : Item) → (if b then Some other else None) �
 some_if true item other h = same_item h
 some_if false item other h = absurd cc
 
-known_next : (kind : PlanType) (uses : JumpUses) (count : ℕ) (items : List Item) (o : Option Item) (item : Item) → following kind uses count items o ≡ Some item → o ≡ Some item
+pub known_next : (kind : PlanType) (uses : JumpUses) (count : ℕ) (items : List Item) (o : Option Item) (item : Item) → following kind uses count items o ≡ Some item → o ≡ Some item
 known_next kind uses count items None item h = absurd cc
 known_next kind uses count items (Some other) item h = ap (λ i. Some i) (some_if (can_follow kind uses count items other) item other h)
 

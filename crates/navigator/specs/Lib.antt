@@ -9,3 +9,12 @@ pub mod Meeting
 pub mod EventLaw
 pub mod Caches
 pub mod Begins
+pub mod NavCalls
+pub mod Asking
+pub mod Looks
+pub mod NextEvent
+pub mod Outstanding
+pub mod OnePlan
+pub mod TakenOfOne
+pub mod LooksInTurn
+pub mod LooksAtTaking

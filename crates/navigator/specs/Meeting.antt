@@ -1,5 +1,5 @@
 -- What an event does beside its look: heads are met, an index is taken, the mark is asked; and what a reply and a drop do.
-use Rattle.std.specs.Prelude.{◌≡◌, ◌≢◌, ℕ, ◌+◌, ◌≤◌, ◌||◌, ◌⊎◌, Bool, true, false, not, List, [], ◌∷◌, ◌++◌, length, Option, Some, None, if◌then◌else◌}
+use Rattle.std.specs.Prelude.{◌≡◌, ◌≢◌, ℕ, ◌+◌, ◌<◌, ◌≤◌, ◌||◌, ◌⊎◌, Bool, true, false, not, List, [], ◌∷◌, ◌++◌, length, Option, Some, None, if◌then◌else◌}
 use Rattle.mission_model.specs.declared.counts.Mark.{Mark}
 use Rattle.mission_model.specs.declared.plan.Item.{Item}
 use Rattle.mission_model.specs.declared.plan.PlanHead.{PlanHead}
@@ -86,9 +86,10 @@ pub record MarkRests (id : ℕ) (f : FlightState) (b : BoardState) (f' : FlightS
   pub flight : f' ≡ f
   pub board : b' ≡ b
 
--- the mark of the place is asked, which is not the last standing one by id, index and pairs; it stands from now on
+-- while there is room the mark of the place is asked, which is not the last standing one by id, index and pairs; it stands from now on
 pub record MarkAsked (id : ℕ) (f : FlightState) (b : BoardState) (f' : FlightState) (b' : BoardState) : Type 0 where
   pub mark : Mark
+  pub room : outstanding b Nav < limit Nav
   pub place : plain_mark mark ≡ place_of id f
   pub other : plain_mark (last_standing f.marks) ≢ place_of id f
   pub flight : f' ≡ record f { marks = record f.marks { asked = f.marks.asked ++ mark ∷ [] } }

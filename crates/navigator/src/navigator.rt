@@ -7,6 +7,7 @@ ghost use Rattle.client_cache.specs.Moves.{moved};
 ghost use Rattle.navigator.specs.NavState.{with_taken, HasShown, own_cache, with_own_cache};
 ghost use Rattle.navigator.specs.Meeting.{after_reply, drop_owed, after_drop, still_owed};
 ghost use Rattle.navigator.specs.EventLaw.{nav_at_boot, Obeys, CanTick};
+ghost use Rattle.navigator.specs.NavCalls.{reply_taken, drop_taken};
 
 mod events;
 mod mission;
@@ -103,6 +104,7 @@ impl Navigator {
     /// Takes the reply to the first of its requests whose reply it was not given yet.
     pub fn got(&mut self, asked: &Asked, reply: &Reply)
         ensures state { self.new ≡ after_reply self.old asked.now reply.now }
+        ensures told { (items : List ItemValue) → with_taken self.new items ≡ reply_taken (with_taken self.old items) asked.now reply.now }
         ensures shown { (items : List ItemValue) → HasShown self.old items → HasShown self.new items }
     {
         match *asked {
@@ -138,6 +140,7 @@ impl Navigator {
         requires { IsSome (drop_owed self.old board.now.published) }
         ensures drop { Some result ≡ drop_owed self.old board.now.published }
         ensures state { self.new ≡ after_drop self.old result }
+        ensures told { (items : List ItemValue) → with_taken self.new items ≡ drop_taken (with_taken self.old items) result.0 result.1 }
         ensures shown { (items : List ItemValue) → HasShown self.old items → HasShown self.new items }
     {
         match self.owed(board) {

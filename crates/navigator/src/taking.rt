@@ -7,7 +7,8 @@ ghost use Rattle.mission_model.specs.PlanCheck.{Checked, HasRoom};
 ghost use Rattle.client_cache.specs.CacheState.{CacheState, count_of, known_at};
 ghost use Rattle.navigator.specs.Uses.{JumpUses as UsesValue};
 ghost use Rattle.navigator.specs.Taking.{TakesNext, whole_taking, can_follow};
-ghost use Rattle.navigator.specs.Begins.{Begins, Knows};
+ghost use Rattle.client_cache.specs.Knowing.{Knows};
+ghost use Rattle.navigator.specs.Begins.{Begins};
 
 use crate::uses::JumpUses;
 use client_cache::Cache;

@@ -17,6 +17,7 @@ returns c =
     let place : plain_mark mark ≡ place_of c.args.id (the_view c.self.inside) = rw (c.index.ensures.index, c.counts.ensures) refl in
     rw (← c.self.view_is) (inr (record {
       mark = mark;
+      room = room;
       place = place;
       other = λ e. cc (c.is_same_place.ensures.1 (rw c.last.ensures (e ∙ sym place)), c.if-is_same_place.false);
       flight = rw c.push.ensures refl;
