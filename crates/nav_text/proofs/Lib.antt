@@ -5,3 +5,5 @@ pub mod LineSteps
 pub mod WordSteps
 pub mod JoinSteps
 pub mod Loops
+pub mod Fronts
+pub mod Keeping

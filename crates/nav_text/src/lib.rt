@@ -14,7 +14,7 @@ pub use fault::TextFault;
 pub use joining::join_text;
 pub use lines::{MAX_LINE_BYTES, MAX_TEXT_BYTES, split_lines};
 pub use span::Span;
-pub use words::words_of;
+pub use words::{first_words, words_of};
 
 #[cfg(test)]
 mod tests;

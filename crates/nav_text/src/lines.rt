@@ -9,6 +9,7 @@ ghost use Rattle.nav_text.specs.Faults.{text_fault, IsFaultFound, is_high};
 
 use crate::fault::TextFault;
 use crate::span::Span;
+use memchr::memchr;
 use std::alloc::{AllocError, Global};
 
 /// The most bytes of a text that can be split.
@@ -28,6 +29,9 @@ const CARRIAGE_RETURN: u8 = b'\r';
 fn first_high(text: &[u8]) -> Option<usize>
     ensures { result ≡ position is_high text.now }
 {
+    if text.is_ascii() {
+        return None;
+    }
     text.iter().position(|byte| *byte >= FIRST_HIGH)
 }
 
@@ -35,7 +39,7 @@ fn first_high(text: &[u8]) -> Option<usize>
 fn first_line_feed(text: &[u8]) -> Option<usize>
     ensures { result ≡ position is_line_feed text.now }
 {
-    text.iter().position(|byte| *byte == LINE_FEED)
+    memchr(LINE_FEED, text)
 }
 
 /// The place of the first line feed from `from` on, or the end of the text.
