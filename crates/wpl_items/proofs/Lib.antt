@@ -2,6 +2,7 @@ pub mod Results
 pub mod Numbers
 pub mod RowValues
 pub mod RowSteps
+pub mod TwelveWords
 pub mod FieldSteps
 pub mod BlankEnds
 pub mod Jumps

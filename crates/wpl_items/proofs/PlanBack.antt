@@ -18,7 +18,7 @@ use Rattle.wpl_items.proofs.Writes.{text_made}
 use Rattle.wpl_items.specs.Rows.{RowsAre}
 use Rattle.wpl_items.specs.Printed.{ReadsBack}
 use Rattle.wpl_items.specs.Writing.{row_text, row_texts, wpl_text}
-use Rattle.wpl_items.specs.Wpl.{Wpl, is_blank_line, is_headed, rows_of, without_blank_end}
+use Rattle.wpl_items.specs.Wpl.{Wpl, is_blank_line, is_headed, rows_among, without_blank_end}
 
 -- each item's row is read back
 abbrev pub EachBack : ℕ → List Item → Type 0
@@ -99,7 +99,7 @@ unfolding text_fault
 no_fault text ascii short = ap (λ high. fault_of high (position_from is_long 1 (lines_of text))) ascii ∙ ap (fault_of None) short
 
 pub plan_back : (items : List Item) → length items ≤ MAX_PLAN_ROWS → EachBack 0 items → lines_of (wpl_text items) ≡ codes "QGC WPL 110" ∷ row_texts 0 items → Wpl (wpl_text items) items
-unfolding wpl_text rows_of
+unfolding wpl_text rows_among
 plan_back items limit back lines =
     let size = rows_size 0 items back in
     let ascii : All (λ (byte : ℕ). byte < 128) (codes "QGC WPL 110" ++ 10 ∷ text_of_lines (row_texts 0 items)) =

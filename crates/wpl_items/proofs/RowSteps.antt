@@ -12,8 +12,9 @@ use Rattle.wpl_items.specs.declared.fault.WplFault.{WplFault}
 use Rattle.wpl_items.specs.declared.fault.WplFault.TheVariants.{Text, Header, TooMany, FieldCount, BadWhole, BadIndex, Num, Memory}
 use Rattle.wpl_items.specs.Rows.{RowIs, RowsAre}
 use Rattle.wpl_items.specs.Fields.{word_at}
-use Rattle.wpl_items.specs.Faults.{Field, Place, Whole, Parameter, Number, field_of, IsBad, FirstRowFault}
-use Rattle.wpl_items.specs.Wpl.{Wpl, IsWplFault, is_headed, rows_of, without_blank_end}
+use Rattle.wpl_items.specs.declared.fields.TheConstants.{FIELDS}
+use Rattle.wpl_items.specs.Faults.{Field, Place, Whole, Parameter, Number, field_of, IsBad, FaultFrom, IsRowFault, FirstRowFault}
+use Rattle.wpl_items.specs.Wpl.{Wpl, IsWplFault, WplLines, IsLinesFault, is_headed, rows_among, rows_of, without_blank_end}
 
 -- one more row behind them
 pub rows_more : (place : ℕ) (lines : List (List ℕ)) (items : List Item) (line : List ℕ) (item : Item) (at : ℕ)
@@ -101,35 +102,89 @@ no_header_fault place [] found = found
 no_header_fault place (line ∷ lines) (inl here) = no_header (field_of here.2.0) place (place + 2) here.2.0 (word_at (words_in line) here.2.0) here.2.4
 no_header_fault place (line ∷ lines) (inr behind) = no_header_fault (place + 1) lines behind.2
 
--- what the rows of a text and the text itself say of each other
-pub found_text : (text : List ℕ) (lines : List (List ℕ)) (answer : Result (Vec Item Global) WplFault)
-    → length text ≤ MAX_TEXT_BYTES → text_fault text ≡ None → is_headed (lines_of text) ≡ true → lines ≡ rows_of text
-    → IfOk answer (λ items. length items.items ≤ MAX_PLAN_ROWS) → IfOk answer (λ items. RowsAre 0 lines items.items) → IfOk answer (λ items. Wpl text items.items)
-found_text text lines (Ok items) size sound header same limit rows = record {
-  size = size;
-  sound = sound;
+-- what the rows of lines and the lines themselves say of each other
+pub found_lines : (lines rows : List (List ℕ)) (answer : Result (Vec Item Global) WplFault)
+    → is_headed lines ≡ true → rows ≡ without_blank_end (drop 1 lines)
+    → IfOk answer (λ items. length items.items ≤ MAX_PLAN_ROWS) → IfOk answer (λ items. RowsAre 0 rows items.items) → IfOk answer (λ items. WplLines lines items.items)
+unfolding rows_among
+found_lines lines rows (Ok items) header same limit found = record {
   header = header;
   limit = limit;
-  rows = (let P : List (List ℕ) → Type 0 = λ ls. RowsAre 0 ls items.items in subst P same rows);
+  rows = (let P : List (List ℕ) → Type 0 = λ ls. RowsAre 0 ls items.items in subst P same found);
 }
-found_text text lines (Err fault) size sound header same limit rows = tt
+found_lines lines rows (Err fault) header same limit found = tt
 
-told_rows : (text : List ℕ) (lines : List (List ℕ)) (fault : WplFault) → text_fault text ≡ None → is_headed (lines_of text) ≡ true → lines ≡ rows_of text → FirstRowFault 0 lines fault → FirstRowFault 0 (rows_of text) fault
-told_rows text lines fault sound header same found = let P : List (List ℕ) → Type 0 = λ ls. FirstRowFault 0 ls fault in subst P same found
+-- the rows of lines
+pub rows_same : (lines : List (List ℕ)) → rows_among lines ≡ without_blank_end (drop 1 lines)
+unfolding rows_among
+rows_same lines = refl
+
+told_rows : (lines rows : List (List ℕ)) (fault : WplFault) → rows ≡ without_blank_end (drop 1 lines) → FirstRowFault 0 rows fault → FirstRowFault 0 (rows_among lines) fault
+told_rows lines rows fault same found = let P : List (List ℕ) → Type 0 = λ ls. FirstRowFault 0 ls fault in subst P (same ∙ sym (rows_same lines)) found
+
+pub told_lines : (lines rows : List (List ℕ)) (answer : Result (Vec Item Global) WplFault)
+    → is_headed lines ≡ true → rows ≡ without_blank_end (drop 1 lines) → IfErr answer (FirstRowFault 0 rows) → IfErr answer (IsLinesFault lines)
+told_lines lines rows (Ok items) header same found = tt
+told_lines lines rows (Err (Memory _)) header same found = tt
+told_lines lines rows (Err (Text fault)) header same found = absurd (no_text_fault 0 rows fault found)
+told_lines lines rows (Err Header) header same found = absurd (no_header_fault 0 rows found)
+told_lines lines rows (Err (TooMany n)) header same found = (header, told_rows lines rows (TooMany n) same found)
+told_lines lines rows (Err (FieldCount n)) header same found = (header, told_rows lines rows (FieldCount n) same found)
+told_lines lines rows (Err (BadWhole n m)) header same found = (header, told_rows lines rows (BadWhole n m) same found)
+told_lines lines rows (Err (BadIndex n)) header same found = (header, told_rows lines rows (BadIndex n) same found)
+told_lines lines rows (Err (Num n m fault)) header same found = (header, told_rows lines rows (Num n m fault) same found)
+
+-- what a text and its lines say of each other
+pub found_text : (text : List ℕ) (lines : List (List ℕ)) (answer : Result (Vec Item Global) WplFault)
+    → length text ≤ MAX_TEXT_BYTES → text_fault text ≡ None → lines ≡ lines_of text
+    → IfOk answer (λ items. WplLines lines items.items) → IfOk answer (λ items. Wpl text items.items)
+found_text text lines (Ok items) size sound same found =
+    let P : List (List ℕ) → Type 0 = λ ls. WplLines ls items.items in
+    let here = subst P same found in
+    record { size = size; sound = sound; header = here.header; limit = here.limit; rows = here.rows }
+found_text text lines (Err fault) size sound same found = tt
+
+pub text_lines : (text : List ℕ) (lines : List (List ℕ)) (items : List Item) → lines ≡ lines_of text → Wpl text items → WplLines lines items
+text_lines text lines items same wpl =
+    let P : List (List ℕ) → Type 0 = λ ls. WplLines ls items in
+    subst P (sym same) (record { header = wpl.header; limit = wpl.limit; rows = wpl.rows })
+
+told_same : (text : List ℕ) (lines : List (List ℕ)) (fault : WplFault) → lines ≡ lines_of text → (is_headed lines ≡ true) × FirstRowFault 0 (rows_among lines) fault → (is_headed (lines_of text) ≡ true) × FirstRowFault 0 (rows_of text) fault
+told_same text lines fault same found = let P : List (List ℕ) → Type 0 = λ ls. (is_headed ls ≡ true) × FirstRowFault 0 (rows_among ls) fault in subst P same found
 
 pub told_text : (text : List ℕ) (lines : List (List ℕ)) (answer : Result (Vec Item Global) WplFault)
-    → text_fault text ≡ None → is_headed (lines_of text) ≡ true → lines ≡ rows_of text → IfErr answer (FirstRowFault 0 lines) → IfErr answer (IsWplFault text)
-told_text text lines (Ok items) sound header same found = tt
-told_text text lines (Err (Memory _)) sound header same found = tt
-told_text text lines (Err (Text fault)) sound header same found = absurd (no_text_fault 0 lines fault found)
-told_text text lines (Err Header) sound header same found = absurd (no_header_fault 0 lines found)
-told_text text lines (Err (TooMany n)) sound header same found = (sound, header, told_rows text lines (TooMany n) sound header same found)
-told_text text lines (Err (FieldCount n)) sound header same found = (sound, header, told_rows text lines (FieldCount n) sound header same found)
-told_text text lines (Err (BadWhole n m)) sound header same found = (sound, header, told_rows text lines (BadWhole n m) sound header same found)
-told_text text lines (Err (BadIndex n)) sound header same found = (sound, header, told_rows text lines (BadIndex n) sound header same found)
-told_text text lines (Err (Num n m fault)) sound header same found = (sound, header, told_rows text lines (Num n m fault) sound header same found)
+    → text_fault text ≡ None → lines ≡ lines_of text → IfErr answer (IsLinesFault lines) → IfErr answer (IsWplFault text)
+told_text text lines (Ok items) sound same found = tt
+told_text text lines (Err (Memory _)) sound same found = tt
+told_text text lines (Err (Text fault)) sound same found = absurd found
+told_text text lines (Err Header) sound same found = (sound, ap is_headed (sym same) ∙ found)
+told_text text lines (Err (TooMany n)) sound same found = let here = told_same text lines (TooMany n) same found in (sound, here.0, here.1)
+told_text text lines (Err (FieldCount n)) sound same found = let here = told_same text lines (FieldCount n) same found in (sound, here.0, here.1)
+told_text text lines (Err (BadWhole n m)) sound same found = let here = told_same text lines (BadWhole n m) same found in (sound, here.0, here.1)
+told_text text lines (Err (BadIndex n)) sound same found = let here = told_same text lines (BadIndex n) same found in (sound, here.0, here.1)
+told_text text lines (Err (Num n m fault)) sound same found = let here = told_same text lines (Num n m fault) same found in (sound, here.0, here.1)
 
--- the rows of a text by its lines
-pub rows_same : (text : List ℕ) (lines : List (List ℕ)) → lines ≡ lines_of text → without_blank_end (drop 1 lines) ≡ rows_of text
-unfolding rows_of
-rows_same text lines same = ap (λ ls. without_blank_end (drop 1 ls)) same
+-- a faulty field is no row too many, and no other number of fields
+no_many : (field : Field) (place line number many : ℕ) (word : List ℕ) → IsBad field place line number word (TooMany many) → ⊥
+no_many Place place line number many word bad = bad
+no_many (Whole _) place line number many word bad = bad
+no_many Parameter place line number many word bad = bad
+no_many (Number _) place line number many word bad = bad
+
+no_count : (field : Field) (place line number many : ℕ) (word : List ℕ) → IsBad field place line number word (FieldCount many) → ⊥
+no_count Place place line number many word bad = bad
+no_count (Whole _) place line number many word bad = bad
+no_count Parameter place line number many word bad = bad
+no_count (Number _) place line number many word bad = bad
+
+-- the fault of a row of twelve words
+pub told_row : (words : List (List ℕ)) (place : ℕ) (answer : Result Item WplFault) → place < MAX_PLAN_ROWS → length words ≡ FIELDS → IfErr answer (FaultFrom words place (place + 2) 1) → IfErr answer (IsRowFault words place)
+told_row words place (Ok item) small many found = tt
+told_row words place (Err (Memory _)) small many found = tt
+told_row words place (Err (Text fault)) small many found = (small, many, found)
+told_row words place (Err Header) small many found = (small, many, found)
+told_row words place (Err (TooMany n)) small many found = absurd (no_many (field_of found.0) place (place + 2) found.0 n (word_at words found.0) found.4)
+told_row words place (Err (FieldCount n)) small many found = absurd (no_count (field_of found.0) place (place + 2) found.0 n (word_at words found.0) found.4)
+told_row words place (Err (BadWhole n m)) small many found = (small, many, found)
+told_row words place (Err (BadIndex n)) small many found = (small, many, found)
+told_row words place (Err (Num n m fault)) small many found = (small, many, found)

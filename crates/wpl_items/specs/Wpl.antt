@@ -34,9 +34,13 @@ abbrev pub without_blank_end : List (List ℕ) → List (List ℕ)
 without_blank_end [] = []
 without_blank_end (line ∷ lines) = if list_all is_blank_line (line ∷ lines) then [] else line ∷ without_blank_end lines
 
+-- those of the lines of a plan text that hold its rows
+unfoldable pub rows_among : List (List ℕ) → List (List ℕ)
+rows_among lines = without_blank_end (drop 1 lines)
+
 -- the lines of a plan text that hold its rows
-unfoldable pub rows_of : List ℕ → List (List ℕ)
-rows_of text = without_blank_end (drop 1 (lines_of text))
+abbrev pub rows_of : List ℕ → List (List ℕ)
+rows_of text = rows_among (lines_of text)
 
 -- the text is a plan text of these items, within the limits
 pub record Wpl (text : List ℕ) (items : List Item) : Type 0 where
@@ -52,3 +56,16 @@ IsWplFault text (Memory _) = Unit {0}
 IsWplFault text (Text fault) = text_fault text ≡ Some fault
 IsWplFault text Header = (text_fault text ≡ None) × (is_headed (lines_of text) ≡ false)
 IsWplFault text fault = (text_fault text ≡ None) × (is_headed (lines_of text) ≡ true) × FirstRowFault 0 (rows_of text) fault
+
+-- the lines are those of a plan text of these items: for one that stands within another text
+pub record WplLines (lines : List (List ℕ)) (items : List Item) : Type 0 where
+  pub header : is_headed lines ≡ true
+  pub limit : length items ≤ MAX_PLAN_ROWS
+  pub rows : RowsAre 0 (rows_among lines) items
+
+-- the first fault of such lines
+abbrev pub IsLinesFault : List (List ℕ) → WplFault → Type 0
+IsLinesFault lines (Memory _) = Unit {0}
+IsLinesFault lines (Text _) = ⊥
+IsLinesFault lines Header = is_headed lines ≡ false
+IsLinesFault lines fault = (is_headed lines ≡ true) × FirstRowFault 0 (rows_among lines) fault

@@ -12,7 +12,7 @@ mod writing;
 
 pub use fault::WplFault;
 pub use home::drop_home;
-pub use reading::read_wpl;
+pub use reading::{read_wpl, read_wpl_lines};
 pub use writing::write_wpl;
 
 #[cfg(test)]

@@ -6,7 +6,7 @@ ghost use Rattle.mission_model.specs.declared.plan.Item.{Item};
 ghost use Rattle.wpl_items.specs.Fields.{named};
 ghost use Rattle.wpl_items.specs.Rows.{RowsAre};
 ghost use Rattle.wpl_items.specs.Faults.{FirstRowFault, GivesItems};
-ghost use Rattle.wpl_items.specs.Wpl.{Wpl, IsWplFault, is_headed, without_blank_end};
+ghost use Rattle.wpl_items.specs.Wpl.{Wpl, IsWplFault, WplLines, IsLinesFault, is_headed, without_blank_end};
 
 use crate::fault::WplFault;
 use crate::lines::{header_line, rows_before_end};
@@ -44,10 +44,27 @@ fn read_rows(alloc: Global, text: &[u8], rows: &[Span]) -> Result<Vec<Item>, Wpl
 {
     let mut items = Vec::new(alloc);
     for row in rows {
-        let item = read_row(alloc, text, *row, items.len() as u32)?;
+        let item = read_row(text, *row, items.len() as u32)?;
         items.push(item)?;
     }
     Ok(items)
+}
+
+/// Reads the lines of a plan text that stands within another text, as [`read_wpl`] does its own: the lines are those
+/// that the spans name, and the first of them is line 1.
+pub fn read_wpl_lines(alloc: Global, text: &[u8], lines: &[Span]) -> Result<Vec<Item>, WplFault>
+    requires room { length text.now ≤ MAX_TEXT_BYTES }
+    requires inside { All (IsInside text.now) lines.now }
+    // What is read are the lines of a plan text of these items, and those of every plan text are read.
+    ensures good { IfOk result (λ items. WplLines (named text.now lines.now) items.items) }
+    ensures only { (items : List Item) → WplLines (named text.now lines.now) items → GivesItems result items }
+    // Other lines are refused with their first fault.
+    ensures fault { IfErr result (IsLinesFault (named text.now lines.now)) }
+{
+    match rows_behind_header(text, lines) {
+        Some(rows) => read_rows(alloc, text, rows),
+        None => Err(WplFault::Header),
+    }
 }
 
 /// Reads a plan text: the header `QGC WPL 110`, then a row of twelve fields for each item, then
@@ -61,8 +78,5 @@ pub fn read_wpl(alloc: Global, text: &[u8]) -> Result<Vec<Item>, WplFault>
     ensures fault { IfErr result (IsWplFault text.now) }
 {
     let lines = split_lines(alloc, text)?;
-    match rows_behind_header(text, &lines) {
-        Some(rows) => read_rows(alloc, text, rows),
-        None => Err(WplFault::Header),
-    }
+    read_wpl_lines(alloc, text, &lines)
 }

@@ -17,8 +17,9 @@ use crate::fields::{
 };
 use mission_model::limits::MAX_PLAN_ROWS;
 use mission_model::{Item, Param};
-use nav_text::{MAX_TEXT_BYTES, Span, words_of};
-use std::alloc::Global;
+use nav_text::{MAX_TEXT_BYTES, Span, first_words};
+
+const NO_WORD: Span = Span { from: 0, to: 0 };
 
 /// What the first four fields tell.
 #[derive(Clone, Copy)]
@@ -122,7 +123,7 @@ fn full_row(text: &[u8], words: &[Span], line: u32, place: u32) -> Result<Item, 
 }
 
 /// The row in a line, of which the place is counted from 0.
-pub(crate) fn read_row(alloc: Global, text: &[u8], line: Span, place: u32) -> Result<Item, WplFault>
+pub(crate) fn read_row(text: &[u8], line: Span, place: u32) -> Result<Item, WplFault>
     requires room { length text.now ≤ MAX_TEXT_BYTES }
     requires inside { IsInside text.now line }
     requires small { place ≤ MAX_PLAN_ROWS }
@@ -135,8 +136,8 @@ pub(crate) fn read_row(alloc: Global, text: &[u8], line: Span, place: u32) -> Re
     if place >= u32::from(MAX_PLAN_ROWS) {
         return Err(WplFault::TooMany(number));
     }
-    let words = words_of(alloc, text, line)?;
-    if words.len() != FIELDS {
+    let mut words = [NO_WORD; FIELDS];
+    if first_words(text, line, &mut words) != FIELDS {
         return Err(WplFault::FieldCount(number));
     }
     full_row(text, &words, number, place)
