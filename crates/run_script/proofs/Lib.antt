@@ -1,0 +1,13 @@
+pub mod Cutting
+pub mod Filling
+pub mod TurnLines
+pub mod Leading
+pub mod Running
+pub mod BootLists
+pub mod Meaning
+pub mod Reading
+pub mod TextFaults
+pub mod Loops
+pub mod RowFacts
+pub mod SafeLines
+pub mod InLimits

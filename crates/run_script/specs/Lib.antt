@@ -1,0 +1,14 @@
+pub mod Choices
+pub mod Table
+pub mod Numbers
+pub mod Cuts
+pub mod Lines
+pub mod Actors
+pub mod Statements
+pub mod Forms
+pub mod Plans
+pub mod Gathered
+pub mod Told
+pub mod Steps
+pub mod Scripts
+pub mod Limits
