@@ -7,7 +7,7 @@ mod banks;
 mod laws;
 mod parts;
 mod records;
-mod swap;
+pub mod swap;
 
 pub use banks::Banks;
 pub use laws::an_image_stands_for_one_store;

@@ -1,6 +1,5 @@
 -- An image has no fault exactly where it stands for something.
 use Rattle.dataman_layout.specs.declared.layout.Layout.{Layout}
-use Rattle.dataman_layout.specs.declared.layout.Layout.TheVariants.{Two}
 use Rattle.dataman_layout.specs.Layouts.{limit_in, most_pairs}
 use Rattle.std.specs.Prelude.{◌≡◌, ◌↔◌, ◌≤◌, ◌+◌, ◌*◌, ℕ, List, length, Option, Some, None, get_or}
 use Rattle.std.proofs.Common.{refl, sym, ap, subst, arith, ◌∙◌}
@@ -11,13 +10,13 @@ use Rattle.mission_model.specs.PlainMark.{PlainMark}
 use Rattle.gated_cell.specs.Cell.{Held, Empty, Twins, InForce, held}
 use Rattle.plan_store.specs.StoreState.{StoredPlan}
 use Rattle.bank_state.specs.Plans.{Plans, plan_among, head_of}
-use Rattle.bank_state.specs.StandsFor.{compat_place, state_cell, mark_cell, NamesIn, HasItemsIn, HasPlanIn, IsLayout, StandsIn}
+use Rattle.bank_state.specs.StandsFor.{compat_place, state_cell, mark_cell, NamesIn, HasItemsIn, HasPlanIn, IsLayout, StandsIn, StandsFor}
 use Rattle.bank_state.specs.Ledger.{plan_read}
 use Rattle.bank_state.specs.OnePair.{one_plan}
 use Rattle.bank_state.specs.Frames.{head_of-plan_read}
-use Rattle.recovery.specs.Faults.{fault_behind, compat_fault, named_by, unnamed, state_number, state_fault, named_fault, plan_fault, states_fault, plans_fault, named_plan, plan_at, mark_fault, fault_in}
+use Rattle.recovery.specs.Faults.{fault_behind, compat_fault, layout_in, named_by, unnamed, state_number, state_fault, named_fault, plan_fault, states_fault, plans_fault, named_plan, plan_at, mark_fault, fault_in}
 use Rattle.recovery.specs.Standing.{mark_at, holding_by}
-use Rattle.recovery.proofs.Faultless.{neither, none_of_two, held_size, layout_of, layout_free, names_of, named_of, items_stand, items_valid, plan_free, mark_of, mark_free}
+use Rattle.recovery.proofs.Faultless.{neither, none_of_two, held_size, layout_of, layout_is, layout_free, names_of, named_of, items_stand, items_valid, plan_free, mark_of, mark_free}
 
 -- what a state cell without a fault names
 named : (layout : Layout) (kind : PlanType) (image : List ℕ) (o : Option (ℕ × PlanHead)) → named_by layout kind (held (state_cell layout kind) image) ≡ o → unnamed (state_number kind) o ≡ None → named_fault layout kind image o ≡ None
@@ -66,11 +65,13 @@ stands_behind layout image is none =
     each s t u p q r Fence = plan_of layout Fence image t q
     each s t u p q r Safe = plan_of layout Safe image u r
 
--- an image without a fault stands in layout 2 for its plans and its mark
-pub stands_by : (image : List ℕ) → fault_in image ≡ None → StandsIn Two image (holding_by Two image).plans (holding_by Two image).mark
+-- an image without a fault stands in the layout that it tells for its plans and its mark
+pub stands_by : (image : List ℕ) → fault_in image ≡ None
+    → StandsIn (layout_in (held compat_place image)) image (holding_by (layout_in (held compat_place image)) image).plans (holding_by (layout_in (held compat_place image)) image).mark
 stands_by image none =
-    let a = neither (compat_fault (get_or image 0 0) (held compat_place image)) _ none in
-    stands_behind Two image (layout_of (get_or image 0 0) (held compat_place image) (held_size compat_place 7 image refl) a.0) a.1
+    let layout = layout_in (held compat_place image) in
+    let a = neither (compat_fault (get_or image 0 0) (held compat_place image)) (fault_behind layout image) none in
+    stands_behind layout image (layout_of (get_or image 0 0) (held compat_place image) (held_size compat_place 7 image refl) a.0) a.1
 
 -- a state cell of a plan that stands
 state_free : (layout : Layout) (kind : PlanType) (plan : StoredPlan) (image : List ℕ) → HasPlanIn layout kind plan image → state_fault layout kind (held (state_cell layout kind) image) ≡ None
@@ -104,8 +105,13 @@ module _ (layout : Layout) (image : List ℕ) (plans : Plans) (mark : PlainMark)
       (none_of_two _ _ (plan_none layout Fence plans.fence image (stands.each Fence)) (none_of_two _ _ (plan_none layout Safe plans.safe image (stands.each Safe)) refl)))
       (none_of_two _ _ (ap (λ (m : StoredPlan). mark_fault layout m (held (mark_cell layout) image)) same_mission ∙ mark_free layout plans.mission stands.stored (held (mark_cell layout) image) stands.has) refl))
 
-pub no_fault : (image : List ℕ) (plans : Plans) (mark : PlainMark) → StandsIn Two image plans mark → fault_in image ≡ None
-no_fault image plans mark stands = none_of_two _ _ (layout_free (get_or image 0 0) (held compat_place image) stands.layout) (none_behind Two image plans mark stands)
+pub no_fault : (layout : Layout) (image : List ℕ) (plans : Plans) (mark : PlainMark) → StandsIn layout image plans mark → fault_in image ≡ None
+no_fault layout image plans mark stands =
+    none_of_two _ _ (layout_free layout (get_or image 0 0) (held compat_place image) stands.layout)
+    (ap (λ (l : Layout). fault_behind l image) (layout_is layout (held compat_place image) stands.layout) ∙ none_behind layout image plans mark stands)
 
-pub exactly : (image : List ℕ) → (fault_in image ≡ None) ↔ ((plans : Plans) × (mark : PlainMark) × StandsIn Two image plans mark)
-exactly image = (λ none. ((holding_by Two image).plans, (holding_by Two image).mark, stands_by image none), λ stands. no_fault image stands.0 stands.1 stands.2)
+pub exactly : (image : List ℕ) → (fault_in image ≡ None) ↔ ((plans : Plans) × (mark : PlainMark) × StandsFor image plans mark)
+exactly image = (
+  λ none. let layout = layout_in (held compat_place image) in ((holding_by layout image).plans, (holding_by layout image).mark, (layout, stands_by image none)),
+  λ stands. no_fault stands.2.0 image stands.0 stands.1 stands.2.1,
+)

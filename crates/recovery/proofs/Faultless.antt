@@ -1,7 +1,7 @@
 -- An image without a fault, part by part: what each cell and each bank then holds.
 use Rattle.dataman_layout.specs.Layouts.{limit_in, most_pairs}
 use Rattle.dataman_layout.specs.declared.layout.Layout.{Layout}
-use Rattle.std.specs.Prelude.{◌≡◌, ◌⊎◌, ◌+◌, ◌-◌, ◌*◌, ◌<◌, ◌≤◌, ◌&&◌, ◌||◌, ◌==◌, ℕ, zero, suc, Bool, true, false, List, [], ◌∷◌, ◌++◌, drop, length, take, slice_get, nat_le, nat_lt, Option, Some, None, unwrap_or, cond}
+use Rattle.std.specs.Prelude.{◌≡◌, ◌⊎◌, ◌+◌, ◌-◌, ◌*◌, ◌^◌, ◌<◌, ◌≤◌, ◌&&◌, ◌||◌, ◌==◌, ℕ, zero, suc, Bool, true, false, List, [], ◌∷◌, ◌++◌, drop, length, take, slice_get, nat_le, nat_lt, Option, Some, None, unwrap_or, cond}
 use Rattle.std.specs.List.{list_all}
 use Rattle.std.proofs.Common.{refl, sym, ap, subst, inl, inr, ⊎_elim, arith, ◌∙◌}
 use Rattle.std.proofs.lemmas.Bool.{cases_eq, eqb-true}
@@ -29,13 +29,13 @@ use Rattle.dataman_layout.specs.MarkLaws.{mark_in-record, record-mark_in}
 use Rattle.plan_store.specs.StoreState.{StoredPlan}
 use Rattle.plan_store.specs.CanServe.{MarkFits, IsJumpUsed}
 use Rattle.bank_state.specs.Plans.{head_of}
-use Rattle.bank_state.specs.StandsFor.{IsThisLayout, NamesIn, record_of, HasItemsIn, IsMarkOf, HasMarkIn}
+use Rattle.bank_state.specs.StandsFor.{IsLayout, NamesIn, record_of, HasItemsIn, IsMarkOf, HasMarkIn}
 use Rattle.bank_state.specs.Ledger.{item_of, items_read, plan_read}
 use Rattle.bank_state.specs.Outcomes.{item_by}
 use Rattle.bank_state.specs.Frames.{length-items_read, is_kind_same}
 use Rattle.recovery.specs.declared.fault.BootFault.{BootFault}
 use Rattle.recovery.specs.declared.fault.BootFault.TheVariants.{BadCell, UnknownVersion}
-use Rattle.recovery.specs.Faults.{or_else, compat_number, compat_fault, named_by, missing, refused, item_fault, items_fault, allows, jump_in, counts_jump, fits, unfit, mark_number, mark_fault}
+use Rattle.recovery.specs.Faults.{or_else, first_of, compat_number, layout_by, layout_in, unknown, unclean, unmovable, compat_fault, named_by, missing, refused, item_fault, items_fault, allows, jump_in, counts_jump, fits, unfit, mark_number, mark_fault}
 use Rattle.recovery.specs.Standing.{kept_of, mark_at}
 use Rattle.recovery.proofs.Lists.{get_push, get_last, take-push, take_one}
 
@@ -75,25 +75,57 @@ held_size place n image is =
     choose_size n (is_open a image) (is_open b image) (generation_at a image) (generation_at b image) (payload_at place a image) (payload_at place b image)
     (length-field image (place.slot_bytes - 9) (a + 9) ∙ sym is) (length-field image (place.slot_bytes - 9) (b + 9) ∙ sym is)
 
--- the compat cell without a fault tells this layout's version
-pub layout_of : (byte : ℕ) (h : Held) → HasSize 7 h → compat_fault byte h ≡ None → IsThisLayout h
+less_than : (a b : ℕ) → nat_lt a b ≡ true → a < b
+less_than a b is = grind (arith, nat_tests, is)
+
+is_less : (a b : ℕ) → a < b → nat_lt a b ≡ true
+is_less a b less = grind (arith, nat_tests, less)
+
+-- the layout of a number, by whether it is 1 and whether it is 2
+told_layout : (s : Bool) (g : ℕ) (payload : List ℕ) (b d : Bool) → (number_at 0 4 payload == 1) ≡ b → (number_at 0 4 payload == 2) ≡ d → length payload ≡ 7
+    → cond b None (cond d None (Some (UnknownVersion (number_at 0 4 payload)))) ≡ None → is_zeros (drop 4 payload) ≡ true → unmovable (cond b One Two) g ≡ None → IsLayout (cond b One Two) (InForce s g payload)
+told_layout s g payload true d one two size known rest movable =
+    let low = passes (nat_lt g (2 ^ 64 - 1)) None (BadCell compat_number) movable in
+    (record { size = size; version = eqb-true (number_at 0 4 payload) 1 one; rest = rest }, less_than g (2 ^ 64 - 1) low.0)
+told_layout s g payload false true one two size known rest movable = record { size = size; version = eqb-true (number_at 0 4 payload) 2 two; rest = rest }
+told_layout s g payload false false one two size known rest movable = absurd cc
+
+-- the compat cell without a fault tells a layout
+pub layout_of : (byte : ℕ) (h : Held) → HasSize 7 h → compat_fault byte h ≡ None → IsLayout (layout_in h) h
 layout_of byte Empty size none = absurd cc
 layout_of byte (Twins g) size none = absurd cc
 layout_of byte (InForce s g payload) size none =
-    let version = passes (number_at 0 4 payload == 2) (cond (is_zeros (drop 4 payload)) None (Some (BadCell compat_number))) (UnknownVersion (number_at 0 4 payload)) none in
-    let rest = passes (is_zeros (drop 4 payload)) None (BadCell compat_number) version.1 in
-    record { size = size; version = eqb-true (number_at 0 4 payload) 2 version.0; rest = rest.0 }
+    let number = number_at 0 4 payload in
+    let first = neither (unknown number) (first_of (unclean payload ∷ unmovable (layout_by number) g ∷ [])) none in
+    let second = neither (unclean payload) (first_of (unmovable (layout_by number) g ∷ [])) first.1 in
+    let third = neither (unmovable (layout_by number) g) None second.1 in
+    let rest = passes (is_zeros (drop 4 payload)) None (BadCell compat_number) second.0 in
+    told_layout s g payload (number == 1) (number == 2) refl refl size first.0 rest.0 third.0
 
 same_number : (n : ℕ) → (n == n) ≡ true
 same_number n = grind (arith, nat_tests)
 
+-- the layout that it tells is the one that it has
+pub layout_is : (layout : Layout) (h : Held) → IsLayout layout h → layout_in h ≡ layout
+layout_is layout Empty is = absurd is
+layout_is layout (Twins g) is = absurd is
+layout_is One (InForce s g payload) is = ap (λ (n : ℕ). cond (n == 1) One Two) is.0.version
+layout_is Two (InForce s g payload) is = ap (λ (n : ℕ). cond (n == 1) One Two) is.version
+
 -- and one that does has no fault
-pub layout_free : (byte : ℕ) (h : Held) → IsThisLayout h → compat_fault byte h ≡ None
-layout_free byte Empty is = absurd is
-layout_free byte (Twins g) is = absurd is
-layout_free byte (InForce s g payload) is =
-    let version : (number_at 0 4 payload == 2) ≡ true = ap (λ (n : ℕ). n == 2) is.version in
-    (λ i. cond (version i) (cond (is.rest i) None (Some (BadCell compat_number))) (Some (UnknownVersion (number_at 0 4 payload))))
+pub layout_free : (layout : Layout) (byte : ℕ) (h : Held) → IsLayout layout h → compat_fault byte h ≡ None
+layout_free layout byte Empty is = absurd is
+layout_free layout byte (Twins g) is = absurd is
+layout_free One byte (InForce s g payload) is =
+    let known : unknown (number_at 0 4 payload) ≡ None = ap unknown is.0.version in
+    let rest : unclean payload ≡ None = ap (λ (b : Bool). cond b None (Some (BadCell compat_number))) is.0.rest in
+    let movable : unmovable (layout_by (number_at 0 4 payload)) g ≡ None = ap (λ (n : ℕ). unmovable (layout_by n) g) is.0.version ∙ ap (λ (b : Bool). cond b None (Some (BadCell compat_number))) (is_less g (2 ^ 64 - 1) is.1) in
+    none_of_two _ _ known (none_of_two _ _ rest (none_of_two _ _ movable refl))
+layout_free Two byte (InForce s g payload) is =
+    let known : unknown (number_at 0 4 payload) ≡ None = ap unknown is.version in
+    let rest : unclean payload ≡ None = ap (λ (b : Bool). cond b None (Some (BadCell compat_number))) is.rest in
+    let movable : unmovable (layout_by (number_at 0 4 payload)) g ≡ None = ap (λ (n : ℕ). unmovable (layout_by n) g) is.version in
+    none_of_two _ _ known (none_of_two _ _ rest (none_of_two _ _ movable refl))
 
 -- what a state cell names, in two ways of saying it
 pub names_of : (layout : Layout) (kind : PlanType) (h : Held) (bank : ℕ) (head : PlanHead) → HasSize 7 h → named_by layout kind h ≡ Some (bank, head) → NamesIn layout kind bank head h
@@ -319,7 +351,7 @@ kept_same id mark same =
     let is : (mark.id == id) ≡ true = grind (arith, nat_tests, same) in
     ap (λ (b : Bool). cond b (Some mark) None) is
 
-mark_is : (mission : StoredPlan) (mark : PlainMark) → unfit mission (Some mark) ≡ None → IsMarkOf mission (kept_of mission.id (Some mark)) mark
+pub mark_is : (mission : StoredPlan) (mark : PlainMark) → unfit mission (Some mark) ≡ None → IsMarkOf mission (kept_of mission.id (Some mark)) mark
 mark_is mission mark none =
     let test = passes (nat_lt mark.id mission.id || fits mark mission) None (BadCell mark_number) none in
     ⊎_elim

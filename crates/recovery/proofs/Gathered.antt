@@ -56,7 +56,7 @@ module _ (a z : DiskState) (seen : z.seen ≡ a.seen) (tells : z.tells ≡ a.tel
 
 -- The parts, by what was read.
 module _ (z : DiskState) (sound : IsSound z) (only : Only z.seen z.images) where
-  known_of : (cell : GatedCell) → (IsTrue z.tells → IsOpened cell z.seen) → Known cell z
+  pub known_of : (cell : GatedCell) → (IsTrue z.tells → IsOpened cell z.seen) → Known cell z
   known_of cell opened = every_only (Fits cell (stored cell z.seen)) z sound only opened
 
   banks_read : (kind : PlanType) (banks : PlanBanks) → AreBanks Two kind banks → (IsTrue z.tells → BanksIn Two kind banks z.seen × (plan_fault Two kind z.seen ≡ None)) → BanksRead kind banks z

@@ -127,7 +127,7 @@ step_read at n got a b u x reads = record {
   went = (ok_is_calm _ a.meter b.meter u reads.meter.call, uncut_read 0 0 a.meter a.meter b.meter _ (uncut_start a.meter) (ok_is_uncut _ a.meter b.meter u reads.meter.call) reads.meter);
 }
 
-read_stopped : (f : DiskFault) (e : BootFault) (a b : Meter) → AfterRead a b (Err f) → Gives f e → Stopped 0 a b e
+pub read_stopped : (f : DiskFault) (e : BootFault) (a b : Meter) → AfterRead a b (Err f) → Gives f e → Stopped 0 a b e
 read_stopped fault.Failed e a b after gives =
     subst (Stopped 0 a b) (sym (gives.0 refl)) (
       failed_rose _ a b after.call,

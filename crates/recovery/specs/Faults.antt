@@ -1,8 +1,8 @@
 -- What a boot finds wrong with an image of the store: the first fault in the order of its reads.
 use Rattle.dataman_layout.specs.Layouts.{limit_in, most_pairs}
 use Rattle.dataman_layout.specs.declared.layout.Layout.{Layout}
-use Rattle.dataman_layout.specs.declared.layout.Layout.TheVariants.{Two}
-use Rattle.std.specs.Prelude.{ℕ, zero, suc, ◌+◌, ◌==◌, ◌&&◌, ◌||◌, Bool, false, List, [], ◌∷◌, drop, get_or, length, nat_le, nat_lt, slice_get, Option, Some, None, if◌then◌else◌}
+use Rattle.dataman_layout.specs.declared.layout.Layout.TheVariants.{One, Two}
+use Rattle.std.specs.Prelude.{ℕ, zero, suc, ◌+◌, ◌-◌, ◌^◌, ◌==◌, ◌&&◌, ◌||◌, Bool, false, List, [], ◌∷◌, drop, get_or, length, nat_le, nat_lt, slice_get, Option, Some, None, if◌then◌else◌}
 use Rattle.std.specs.List.{list_all}
 use Rattle.mission_model.specs.declared.command.Jump.{Jump}
 use Rattle.mission_model.specs.declared.message.AckCode.{AckCode}
@@ -51,16 +51,38 @@ twins_fault number Empty = None
 twins_fault number (Twins generation) = Some (BadCell number)
 twins_fault number (InForce second generation payload) = None
 
--- another version than this layout's, which is 2, and then other bytes behind it than zeros
-abbrev pub version_fault : List ℕ → Option BootFault
-version_fault payload =
-    if number_at 0 4 payload == 2 then (if is_zeros (drop 4 payload) then None else Some (BadCell compat_number)) else Some (UnknownVersion (number_at 0 4 payload))
+-- the layout that a version tells: 1 the first, 2 the second
+abbrev pub layout_by : ℕ → Layout
+layout_by number = if number == 1 then One else Two
+
+-- the layout that the compat cell tells
+abbrev pub layout_in : Held → Layout
+layout_in Empty = Two
+layout_in (Twins generation) = Two
+layout_in (InForce second generation payload) = layout_by (number_at 0 4 payload)
+
+-- a version of no layout
+abbrev pub unknown : ℕ → Option BootFault
+unknown number = if number == 1 then None else (if number == 2 then None else Some (UnknownVersion number))
+
+-- other bytes behind the version than zeros
+abbrev pub unclean : List ℕ → Option BootFault
+unclean payload = if is_zeros (drop 4 payload) then None else Some (BadCell compat_number)
+
+-- a store of layout 1 whose compat cell has the last generation, so that it cannot be migrated
+abbrev pub unmovable : Layout → ℕ → Option BootFault
+unmovable One generation = if nat_lt generation (2 ^ 64 - 1) then None else Some (BadCell compat_number)
+unmovable Two generation = None
+
+-- the fault of the payload in force in the compat cell, behind this generation
+abbrev pub version_fault : ℕ → List ℕ → Option BootFault
+version_fault generation payload = first_of (unknown (number_at 0 4 payload) ∷ unclean payload ∷ unmovable (layout_by (number_at 0 4 payload)) generation ∷ [])
 
 -- the fault of the compat cell, and of the first byte of the store, where none of its gates is open
 abbrev pub compat_fault : ℕ → Held → Option BootFault
 compat_fault byte Empty = Some (NotAStore byte)
 compat_fault byte (Twins generation) = Some (BadCell compat_number)
-compat_fault byte (InForce second generation payload) = version_fault payload
+compat_fault byte (InForce second generation payload) = version_fault generation payload
 
 -- the bank and the plan that a state cell names: none with twins, without an open gate, and by other bytes than a state's
 abbrev pub named_by : Layout → PlanType → Held → Option (ℕ × PlanHead)
@@ -155,6 +177,6 @@ plans_fault layout image = first_of (plan_fault layout Mission image ∷ plan_fa
 abbrev pub fault_behind : Layout → List ℕ → Option BootFault
 fault_behind layout image = first_of (states_fault layout image ∷ plans_fault layout image ∷ mark_fault layout (plan_at layout Mission image) (held (mark_cell layout) image) ∷ [])
 
--- The first fault of an image: of the compat cell, and behind it by layout 2.
+-- The first fault of an image: of the compat cell, and behind it by the layout that this tells.
 abbrev pub fault_in : List ℕ → Option BootFault
-fault_in image = or_else (compat_fault (get_or image 0 0) (held compat_place image)) (fault_behind Two image)
+fault_in image = or_else (compat_fault (get_or image 0 0) (held compat_place image)) (fault_behind (layout_in (held compat_place image)) image)

@@ -1,19 +1,20 @@
 -- What the steps of a boot find, by the bytes that are read.
 use Rattle.dataman_layout.specs.Layouts.{limit_in, most_pairs}
 use Rattle.dataman_layout.specs.declared.layout.Layout.{Layout}
-use Rattle.std.specs.Prelude.{◌≡◌, ℕ, ◌+◌, ◌≤◌, ◌<◌, Bool, false, List, Option, Some, None, slice_get, Result, Ok, Err, ◌==◌, if◌then◌else◌}
+use Rattle.std.specs.Prelude.{◌≡◌, ℕ, ◌+◌, ◌≤◌, ◌<◌, Bool, false, List, Option, Some, None, length, slice_get, Result, Ok, Err, ◌==◌, if◌then◌else◌}
+use Rattle.std.specs.List.{All}
 use Rattle.mission_model.specs.declared.command.Jump.{Jump}
 use Rattle.mission_model.specs.declared.counts.Counts.{Counts}
 use Rattle.mission_model.specs.declared.counts.Mark.{Mark}
 use Rattle.mission_model.specs.CountsList.{pairs_of}
 use Rattle.mission_model.specs.Pairs.{used_of, with_pair}
 use Rattle.mission_model.specs.declared.plan.Item.{Item}
+use Rattle.mission_model.specs.declared.plan.PlanHead.{PlanHead}
 use Rattle.mission_model.specs.declared.plan.PlanType.{PlanType}
 use Rattle.mission_model.specs.declared.plan.PlanType.TheVariants.{Mission, Fence, Safe}
 use Rattle.gated_cell.specs.declared.cell.GatedCell.{GatedCell}
 use Rattle.gated_cell.specs.declared.place.CellPlace.{CellPlace}
 use Rattle.gated_cell.specs.Cell.{Held, InForce, Empty, Fits, stored, held}
-use Rattle.bank_state.specs.declared.parts.Parts.{Parts}
 use Rattle.bank_state.specs.declared.parts.PlanBanks.{PlanBanks}
 use Rattle.bank_state.specs.StandsFor.{state_cell, mark_cell}
 use Rattle.bank_state.specs.Ledger.{plan_read}
@@ -22,7 +23,7 @@ use Rattle.recovery.specs.Faults.{named_by, jump_in, plans_fault, mark_fault}
 use Rattle.recovery.specs.Standing.{mark_at}
 use Rattle.recovery.specs.declared.fault.BootFault.{BootFault}
 use Rattle.recovery.specs.declared.cells.States.{States}
-use Rattle.recovery.specs.declared.pass.Found.{Found}
+use Rattle.recovery.specs.declared.finding.Found.{Found}
 
 -- the cell is as an image has it
 abbrev pub IsOpened : GatedCell → List ℕ → Type 0
@@ -60,6 +61,12 @@ pub record BanksIn (layout : Layout) (kind : PlanType) (banks : PlanBanks) (imag
   pub opened : IsOpened banks.cell image
   pub named : named_by layout kind (held (state_cell layout kind) image) ≡ Some (banks.bank, banks.head)
 
+-- the banks of a type among those that the state cells name
+abbrev pub banks_among : States → PlanType → PlanBanks
+banks_among states Mission = states.mission
+banks_among states Fence = states.fence
+banks_among states Safe = states.safe
+
 pub record AreStates (layout : Layout) (states : States) : Type 0 where
   pub mission : AreBanks layout Mission states.mission
   pub fence : AreBanks layout Fence states.fence
@@ -88,6 +95,16 @@ noted pairs seq (Some jump) = with_repeats pairs seq jump.repeats
 abbrev pub HasJumps : List Item → Counts → Type 0
 HasJumps items repeats = (seq : ℕ) → used_of (pairs_of repeats) seq ≡ repeats_by (jump_in (slice_get items seq))
 
+-- over any disk: they are how often the jumps of some items repeat, as many as were read
+abbrev pub HasJumpsOf : ℕ → Counts → Type 0
+HasJumpsOf count repeats = (items : List Item) × (length items ≡ count) × HasJumps items repeats
+
+-- the mark stands at an item of the plan of this head or at its end, and each of its pairs is of one of its items
+pub record IsWithin (head : PlanHead) (mark : PlainMark) : Type 0 where
+  pub id : mark.id ≡ head.id
+  pub index : mark.index ≤ head.count
+  pub pairs : All (λ (pair : ℕ × ℕ). pair.0 < head.count) mark.pairs
+
 -- what was read of all cells and plans
 pub record AllRead (version : Layout) (image : List ℕ) (states : States) (cell : GatedCell) (mark : Option Mark) : Type 0 where
   pub states_are : StatesIn version states image
@@ -100,8 +117,3 @@ pub record AllRead (version : Layout) (image : List ℕ) (states : States) (cell
 abbrev pub reads_behind : Result Found BootFault → ℕ
 reads_behind (Ok found) = 8 + (found.states.mission.head.count + (found.states.fence.head.count + found.states.safe.head.count))
 reads_behind (Err fault) = 0
-
--- the reads that find these parts: two a cell, and one an item
-abbrev pub reads_for : Result Parts BootFault → ℕ
-reads_for (Ok parts) = 10 + (parts.mission.head.count + (parts.fence.head.count + parts.safe.head.count))
-reads_for (Err fault) = 0

@@ -1,7 +1,6 @@
 -- What an image without a fault stands for, and what a boot tells of it.
 use Rattle.dataman_layout.specs.Layouts.{most_pairs}
 use Rattle.dataman_layout.specs.declared.layout.Layout.{Layout}
-use Rattle.dataman_layout.specs.declared.layout.Layout.TheVariants.{Two}
 use Rattle.std.specs.Prelude.{◌≡◌, ◌↔◌, ℕ, ◌+◌, ◌==◌, List, [], ◌∷◌, Option, Some, None, unwrap_or, if◌then◌else◌}
 use Rattle.mission_model.specs.declared.plan.PlanHead.{PlanHead}
 use Rattle.mission_model.specs.declared.plan.PlanType.TheVariants.{Mission, Fence, Safe}
@@ -11,7 +10,7 @@ use Rattle.gated_cell.specs.Cell.{Held, Empty, Twins, InForce, held}
 use Rattle.dataman_layout.specs.Mark.{mark_in}
 use Rattle.plan_store.specs.StoreState.{first_mark}
 use Rattle.bank_state.specs.Plans.{Plans, Holding, head_of}
-use Rattle.bank_state.specs.StandsFor.{mark_cell, StandsIn}
+use Rattle.bank_state.specs.StandsFor.{mark_cell, StandsFor}
 use Rattle.bank_state.specs.Ledger.{Ledger, mark_by}
 use Rattle.recovery.specs.Faults.{fault_in, plan_at}
 
@@ -50,6 +49,6 @@ pub record TellsBanks (state : BootState) (ledger : Ledger) : Type 0 where
   pub heads : state.heads ≡ (ledger.entries Mission).head ∷ (ledger.entries Fence).head ∷ (ledger.entries Safe).head ∷ []
   pub marked : plain_mark state.mark ≡ mark_by ledger
 
--- An image has no fault exactly where it stands for something in layout 2.
+-- An image has no fault exactly where it stands for something.
 abbrev pub NoFaultExactly : List ℕ → Type 0
-NoFaultExactly image = (fault_in image ≡ None) ↔ ((plans : Plans) × (mark : PlainMark) × StandsIn Two image plans mark)
+NoFaultExactly image = (fault_in image ≡ None) ↔ ((plans : Plans) × (mark : PlainMark) × StandsFor image plans mark)

@@ -1,7 +1,9 @@
 // The cells of a store, opened in the order of a boot.
 ghost use Rattle.dataman_layout.specs.Layouts.{limit_in, most_pairs};
 ghost use Rattle.dataman_layout.specs.State.{StateRecord, state_in};
-ghost use Rattle.std.specs.Prelude.{◌≡◌, ◌+◌, ◌*◌, ◌≤◌, ◌-◌, false, get_or, length, IsTrue, IfSome, IfOk, IfErr};
+ghost use Rattle.std.specs.Prelude.{◌≡◌, ◌+◌, ◌*◌, ◌^◌, ◌<◌, ◌≤◌, ◌-◌, false, get_or, length, IsTrue, IfSome, IfOk, IfErr};
+ghost use Rattle.dataman_layout.specs.Fields.{number_at};
+ghost use Rattle.dataman_layout.specs.declared.layout.Layout.TheVariants.{One};
 ghost use Rattle.mission_model.specs.declared.limits.TheConstants.{STORE_BYTES};
 ghost use Rattle.mission_model.specs.PlainMark.{plain_mark};
 ghost use Rattle.disk_model.specs.Disk.{Only};
@@ -11,18 +13,17 @@ ghost use Rattle.plan_store.specs.StoreState.{StoredPlan};
 ghost use Rattle.bank_state.specs.Plans.{head_of};
 ghost use Rattle.bank_state.specs.StandsFor.{compat_place, state_cell, mark_cell};
 ghost use Rattle.recovery.specs.declared.fault.BootFault.TheVariants.{BadCell};
-ghost use Rattle.recovery.specs.Faults.{twins_fault, version_fault, compat_fault, state_number, state_fault, states_fault, mark_number, fits, unfit, mark_fault};
+ghost use Rattle.recovery.specs.Faults.{twins_fault, layout_by, layout_in, unknown, unclean, unmovable, version_fault, compat_fault, state_number, state_fault, states_fault, mark_number, fits, unfit, mark_fault};
 ghost use Rattle.recovery.specs.Standing.{kept_of, mark_at};
 ghost use Rattle.recovery.specs.Steps.{Step, IsOfDisk, Answers, judged, fault_of};
-ghost use Rattle.recovery.specs.Found.{IsFound, IsMarkFound, IsOpened, AreBanks, BanksIn, AreStates, StatesIn, HasJumps};
+ghost use Rattle.recovery.specs.Found.{IsFound, IsMarkFound, IsOpened, AreBanks, BanksIn, AreStates, StatesIn, HasJumps, HasJumpsOf, IsWithin};
 
 use crate::BootFault;
 use crate::jumps::allow;
 use bank_state::PlanBanks;
 use dataman_layout::places::{COMPAT_AT, SMALL_SLOT_BYTES, mark_at, mark_slot_bytes, state_at};
 use dataman_layout::{
-    Layout, decode_compat, decode_mark, decode_mark_one, decode_state, decode_state_one,
-    version_in, version_of,
+    Layout, decode_compat, decode_mark, decode_mark_one, decode_state, decode_state_one, version_in,
 };
 use disk_model::Disk;
 use gated_cell::{CellFault, CellPlace, GatedCell};
@@ -46,7 +47,7 @@ fn state_number(kind: PlanType) -> u8
 }
 
 /// The fault of opening the cell of this number.
-fn fault_of(number: u8, fault: CellFault) -> BootFault
+pub fn fault_of(number: u8, fault: CellFault) -> BootFault
     ensures { result ≡ fault_of number fault }
 {
     match fault {
@@ -90,26 +91,67 @@ pub fn first_byte<D: Disk>(disk: &mut D) -> Result<u8, BootFault>
     Ok(first[0])
 }
 
-/// Whether these bytes are this layout's version.
-fn judge_version(payload: &[u8; 7]) -> Result<(), BootFault>
-    ensures { result ≡ judged (version_fault payload.now) }
+/// The layout of this version, if it is one's.
+fn known_layout(version: u32) -> Result<Layout, BootFault>
+    ensures answers { Answers (unknown version) (λ layout. layout ≡ layout_by version) result }
+    ensures found { IfErr result (λ fault. IsOfDisk fault → ⊥) }
 {
-    let version = version_in(payload);
-    if version != version_of(Layout::Two) {
-        return Err(BootFault::UnknownVersion(version));
+    match version {
+        1 => Ok(Layout::One),
+        2 => Ok(Layout::Two),
+        _ => Err(BootFault::UnknownVersion(version)),
     }
+}
+
+/// Whether only zeros stand behind the version.
+fn judge_rest(payload: &[u8; 7]) -> Result<(), BootFault>
+    ensures { result ≡ judged (unclean payload.now) }
+{
     match decode_compat(payload) {
         Some(_) => Ok(()),
         None => Err(BootFault::BadCell(COMPAT_CELL)),
     }
 }
 
-/// Opens the compat cell. Where none of its gates is open the first byte is read once more, to tell it.
-pub fn open_compat<D: Disk>(disk: &mut D) -> Result<(), BootFault>
+/// Whether the cell can be changed once more, which a store of layout 1 wants so that it can be migrated.
+fn judge_generation(layout: Layout, generation: u64) -> Result<(), BootFault>
+    ensures { result ≡ judged (unmovable layout generation) }
+{
+    match layout {
+        Layout::One => {
+            if generation < u64::MAX {
+                Ok(())
+            } else {
+                Err(BootFault::BadCell(COMPAT_CELL))
+            }
+        }
+        Layout::Two => Ok(()),
+    }
+}
+
+/// The layout that the payload in force tells, behind this generation.
+fn judge_compat(payload: &[u8; 7], generation: u64) -> Result<Layout, BootFault>
+    ensures answers { Answers (version_fault generation payload.now) (λ layout. layout ≡ layout_by (number_at 0 4 payload.now)) result }
+    ensures movable { IfOk result (λ layout. layout ≡ One → generation + 1 < 2 ^ 64) }
+    ensures found { IfErr result (λ fault. IsOfDisk fault → ⊥) }
+{
+    let layout = known_layout(version_in(payload))?;
+    judge_rest(payload)?;
+    judge_generation(layout, generation)?;
+    Ok(layout)
+}
+
+/// Opens the compat cell, which tells the layout of the store. Where none of its gates is open the first byte is read once
+/// more, to tell it.
+pub fn open_compat<D: Disk>(disk: &mut D) -> Result<(GatedCell, Layout), BootFault>
     requires room { STORE_BYTES ≤ (D.state disk.old).meter.size }
     requires only { Only (D.state disk.old).seen (D.state disk.old).images }
     ensures step { Step 2 (D.state disk.old) (D.state disk.new) result }
-    ensures answers { IsTrue (D.state disk.old).tells → Answers (compat_fault (get_or (D.state disk.old).seen 0 0) (held compat_place (D.state disk.old).seen)) (λ _. Unit {0}) result }
+    ensures place { IfOk result (λ found. found.0.place ≡ compat_place) }
+    ensures calm { IfOk result (λ found. found.0.doubt ≡ false) }
+    ensures movable { IfOk result (λ found. found.1 ≡ One → found.0.generation + 1 < 2 ^ 64) }
+    ensures answers { IsTrue (D.state disk.old).tells → Answers (compat_fault (get_or (D.state disk.old).seen 0 0) (held compat_place (D.state disk.old).seen))
+        (λ found. IsOpened found.0 (D.state disk.old).seen × (found.1 ≡ layout_in (held compat_place (D.state disk.old).seen))) result }
 {
     let mut payload = [0; 7];
     let place = CellPlace {
@@ -121,7 +163,8 @@ pub fn open_compat<D: Disk>(disk: &mut D) -> Result<(), BootFault>
         let byte = first_byte(disk)?;
         return Err(BootFault::NotAStore(byte));
     }
-    judge_version(&payload)
+    let layout = judge_compat(&payload, cell.generation())?;
+    Ok((cell, layout))
 }
 
 /// The bank and the plan that these bytes of a state cell name.
@@ -260,6 +303,7 @@ pub fn open_mark<D: Disk>(
     ensures step { Step 2 (D.state disk.old) (D.state disk.new) result }
     ensures place { IfOk result (λ found. found.0.place ≡ mark_cell layout) }
     ensures calm { IfOk result (λ found. found.0.doubt ≡ false) }
+    ensures within { HasJumpsOf mission.count jumps.now → IfOk result (λ found. IfSome found.1 (λ mark. IsWithin mission (plain_mark mark))) }
     ensures answers { IsTrue (D.state disk.old).tells → (plan : StoredPlan) → head_of plan ≡ mission → HasJumps plan.items jumps.now →
         Answers (mark_fault layout plan (held (mark_cell layout) (D.state disk.old).seen))
         (λ found. IsOpened found.0 (D.state disk.old).seen × (plain_marks found.1 ≡ mark_at layout mission.id (held (mark_cell layout) (D.state disk.old).seen))) result }

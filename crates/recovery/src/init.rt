@@ -26,16 +26,16 @@ const CELL_BYTES: usize = 384;
 const STATE_BYTES: usize = 32;
 
 /// What a gate holds that is open.
-const OPEN: u8 = 0xA5;
+pub const OPEN: u8 = 0xA5;
 
 // Where the lowest byte of the generation stands in a slot, and where the payload begins.
 
-const GENERATION: usize = 1;
+pub const GENERATION: usize = 1;
 
-const PAYLOAD: usize = 9;
+pub const PAYLOAD: usize = 9;
 
 /// The generation of a slot that is written first, in its lowest byte.
-const FIRST_GENERATION: u8 = 1;
+pub const FIRST_GENERATION: u8 = 1;
 
 /// The bytes of the compat cell of a new store, whose first slot is open.
 #[tactic(auto, unfolding(dataman_layout::specs::Compat::compat_bytes, dataman_layout::specs::Fields::number_bytes))]

@@ -8,7 +8,7 @@ ghost use Rattle.bank_state.specs.Ledger.{items_read};
 ghost use Rattle.bank_state.specs.Outcomes.{item_by};
 ghost use Rattle.recovery.specs.Faults.{missing, items_fault, plans_fault};
 ghost use Rattle.recovery.specs.Steps.{Step, IsOfDisk, Answers};
-ghost use Rattle.recovery.specs.Found.{AreStates, StatesIn, HasJumps};
+ghost use Rattle.recovery.specs.Found.{AreStates, StatesIn, HasJumps, HasJumpsOf};
 
 use crate::BootFault;
 use crate::cells::States;
@@ -79,6 +79,7 @@ fn read_plan<D: Disk>(
     requires bank { banks.bank < 2 }
     requires count { banks.head.count ≤ limit_in layout kind }
     ensures step { Step banks.head.count (D.state disk.old) (D.state disk.new) result }
+    ensures items { IfOk result (λ jumps. kind ≡ Mission → HasJumpsOf banks.head.count jumps) }
     ensures answers { IsTrue (D.state disk.old).tells → Answers (items_fault layout kind banks.bank banks.head banks.head.count (D.state disk.old).seen)
         (λ jumps. kind ≡ Mission → HasJumps (items_read layout kind banks.bank banks.head.count (D.state disk.old).seen) jumps) result }
 {
@@ -101,6 +102,7 @@ pub fn read_plans<D: Disk>(
     states: &States,
 ) -> Result<Counts, BootFault>
     requires states { AreStates layout states.now }
+    ensures items { IfOk result (λ jumps. HasJumpsOf states.now.mission.head.count jumps) }
     ensures step { Step (states.now.mission.head.count + (states.now.fence.head.count + states.now.safe.head.count)) (D.state disk.old) (D.state disk.new) result }
     ensures answers { IsTrue (D.state disk.old).tells → StatesIn layout states.now (D.state disk.old).seen → Answers (plans_fault layout (D.state disk.old).seen)
         (λ jumps. HasJumps (items_read layout Mission states.now.mission.bank states.now.mission.head.count (D.state disk.old).seen) jumps) result }

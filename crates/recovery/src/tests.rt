@@ -1,6 +1,6 @@
 // What no clause says: the first row of a store that is made, booted and not made again, its bytes written out, one store for
-// each fault, and at which calls of the disk a new store and a boot stop.
-ghost use Rattle.std.specs.Prelude.{◌≡◌, ◌≤◌};
+// each fault, at which calls of the disk a new store and a boot stop, and the bytes of both layouts round a migration.
+ghost use Rattle.std.specs.Prelude.{◌≡◌, ◌≤◌, ◌+◌, length};
 ghost use Rattle.mission_model.specs.declared.limits.TheConstants.{STORE_BYTES};
 
 use crate::BootFault::{BadCell, BadItem, DiskFailed, NotAStore, PowerOff, UnknownVersion};
@@ -157,11 +157,12 @@ fn found_with(
 }
 
 /// A byte of that store that is changed, and the fault that is found then.
-const CHANGES: [(u64, u8, BootFault); 24] = [
+const CHANGES: [(u64, u8, BootFault); 25] = [
     // The compat cell: its gate, twins, the version, and the bytes behind it.
     (0, 0, NotAStore(0)),
     (0, 0x5A, NotAStore(0x5A)),
     (16, 0xA5, BadCell(0)),
+    (9, 1, BadCell(1)),
     (9, 3, UnknownVersion(3)),
     (9, 0, UnknownVersion(0)),
     (10, 1, UnknownVersion(258)),
@@ -271,5 +272,152 @@ fn a_boot_is_a_sync_and_two_reads_a_cell_and_one_an_item(rt: HostRuntime) -> Res
     for (cut, wanted) in rows {
         assert_eq!(rt; found_cut(alloc, cut)?, wanted, "{cut:?}");
     }
+    Ok(())
+}
+
+/// The slot of version 1, and of version 2 behind it, with their generations.
+const VERSIONS: [u8; 32] = [
+    0xA5, 1, 0, 0, 0, 0, 0, 0, 0, 1, 0, 0, 0, 0, 0, 0, //
+    0xA5, 2, 0, 0, 0, 0, 0, 0, 0, 2, 0, 0, 0, 0, 0, 0,
+];
+
+/// The slot of a mission of id 1 with one waypoint in bank 0, with the first generation.
+const FIRST: [u8; 16] = [0xA5, 1, 0, 0, 0, 0, 0, 0, 0, 0, 1, 0, 0, 0, 1, 0];
+
+/// A store of layout 1 with that mission and the mark at its end.
+fn write_one<D: Disk>(disk: &mut D) -> Result<(), DiskFault>
+    requires room { STORE_BYTES ≤ (D.state disk.old).meter.size }
+    ensures size { (D.state disk.new).meter.size ≡ (D.state disk.old).meter.size }
+    ensures can_cut { (D.state disk.new).meter.can_cut ≡ (D.state disk.old).meter.can_cut }
+{
+    disk.write_at(0, &VERSIONS[..16])?;
+    disk.write_at(16, &[0; 16])?;
+    disk.write_at(32, &FIRST)?;
+    disk.write_at(64, &EMPTY)?;
+    disk.write_at(96, &EMPTY)?;
+    disk.write_at(128, &MARK)?;
+    disk.write_at(512, &RECORD)?;
+    disk.sync()
+}
+
+#[test]
+fn a_store_of_layout_1_is_moved(rt: HostRuntime) -> Result<(), Fail> {
+    let alloc = rt.alloc();
+    let mut disk = MemoryDisk::new(alloc, STORE_BYTES, Vec::new(alloc))?;
+    assert_eq!(rt; write_one(&mut disk), Ok(()));
+    let mut version = [1; 32];
+    let mut cells = [1; 400];
+    let mut record = [1; 48];
+    match boot(disk) {
+        Ok((banks, state)) => {
+            assert_eq!(rt; state, told_of(1, 1, 1));
+            let mut disk = banks.into_disk();
+            assert_eq!(rt; disk.read_at(0, &mut version), Ok(()));
+            assert_eq!(rt; disk.read_at(65_536, &mut cells), Ok(()));
+            assert_eq!(rt; disk.read_at(66_048, &mut record), Ok(()));
+        }
+        Err((fault, _disk)) => assert_eq!(rt; Some(fault), None),
+    }
+    assert_eq!(rt; version, VERSIONS);
+    assert_eq!(rt;
+        cells,
+        with_slots([(0, FIRST), (32, EMPTY), (64, EMPTY), (96, MARK)])
+    );
+    assert_eq!(rt; record, RECORD);
+    Ok(())
+}
+
+/// What a boot finds, and the disk again.
+fn boot_once<D: Disk>(disk: D) -> (Result<BootState, BootFault>, D)
+    requires room { STORE_BYTES ≤ (D.state disk).meter.size }
+    ensures size { (D.state result.1).meter.size ≡ (D.state disk).meter.size }
+    ensures can_cut { (D.state result.1).meter.can_cut ≡ (D.state disk).meter.can_cut }
+{
+    match boot(disk) {
+        Ok((banks, state)) => (Ok(state), banks.into_disk()),
+        Err((fault, disk)) => (Err(fault), disk),
+    }
+}
+
+/// What a boot of that store finds with this cut, byte 16 then, and what the next boot finds.
+fn found_moved(
+    alloc: Global,
+    cut: CutAt,
+) -> Result<(Option<BootFault>, u8, Result<BootState, BootFault>), AllocError> {
+    let mut disk = MemoryDisk::new(alloc, STORE_BYTES, Vec::new(alloc))?;
+    let _written = write_one(&mut disk);
+    disk.arm(Some(cut));
+    let (first, disk) = boot_once(disk);
+    let mut disk = disk;
+    let mut gate = [1];
+    disk.arm(None);
+    disk.restart();
+    let _read = disk.read_at(16, &mut gate);
+    let (second, _disk) = boot_once(disk);
+    Ok((first.err(), gate[0], second))
+}
+
+/// The ways in which a cut tears what is pending, and the gate of the second slot that a cut leaves while it is opened.
+const TEARS: [(Tear, u8); 5] = [
+    (Tear::Old, 0),
+    (Tear::New, 0xA5),
+    (Tear::Front(0), 0),
+    (Tear::Fill(0xA5), 0xA5),
+    (Tear::Fill(0x5A), 0x5A),
+];
+
+#[test]
+fn a_move_may_be_cut_in_each_of_its_calls(rt: HostRuntime) -> Result<(), Fail> {
+    let alloc = rt.alloc();
+    let up = Ok(told_of(1, 1, 1));
+    for (tear, gate) in TEARS {
+        for call in 1..15 {
+            let (first, left, second) = found_moved(alloc, CutAt::Change(call, tear))?;
+            assert_eq!(rt; first, Some(PowerOff), "{call} {tear:?}");
+            assert_eq!(rt; second, up, "{call} {tear:?}");
+            if call == 12 {
+                assert_eq!(rt; left, gate, "{tear:?}");
+            }
+        }
+    }
+    // It makes 14 calls and, with one item, 10 + 1 + 1 + 8 + 1 reads.
+    let rows = [
+        (CutAt::Change(15, Tear::New), None),
+        (CutAt::Read(21, Tear::New), Some(PowerOff)),
+        (CutAt::Read(22, Tear::New), None),
+    ];
+    for (cut, fault) in rows {
+        let (first, _left, second) = found_moved(alloc, cut)?;
+        assert_eq!(rt; first, fault, "{cut:?}");
+        assert_eq!(rt; second, up, "{cut:?}");
+    }
+    Ok(())
+}
+
+/// What a boot finds in that store with bytes changed.
+fn found_one(alloc: Global, at: u64, bytes: &[u8]) -> Result<Option<BootFault>, AllocError>
+    requires { at + length bytes.now ≤ STORE_BYTES }
+{
+    let mut disk = MemoryDisk::new(alloc, STORE_BYTES, Vec::new(alloc))?;
+    let _written = write_one(&mut disk);
+    let _changed = disk.write_at(at, bytes);
+    Ok(boot(disk).err().map(|down| down.0))
+}
+
+#[test]
+fn layout_1_has_its_own_limits(rt: HostRuntime) -> Result<(), Fail> {
+    let alloc = rt.alloc();
+    // The last generation, but for one; 501 items; 17 pairs.
+    assert_eq!(rt; found_one(alloc, 1, &[0xFF; 8])?, Some(BadCell(0)));
+    assert_eq!(rt;
+        found_one(alloc, 1, &[0xFE, 0xFF, 0xFF, 0xFF, 0xFF, 0xFF, 0xFF, 0xFF])?,
+        None
+    );
+    assert_eq!(rt; found_one(alloc, 46, &[0xF5, 1])?, Some(BadCell(1)));
+    assert_eq!(rt;
+        found_one(alloc, 46, &[0xF4, 1])?,
+        Some(BadItem(Mission, 1))
+    );
+    assert_eq!(rt; found_one(alloc, 143, &[17])?, Some(BadCell(4)));
     Ok(())
 }

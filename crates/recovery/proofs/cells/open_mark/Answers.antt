@@ -12,6 +12,7 @@ use Rattle.recovery.specs.Steps.{Answers, StoppedBy}
 use Rattle.recovery.specs.Found.{IsOpened}
 use Rattle.recovery.proofs.Steps.{passed_on}
 use Rattle.recovery.proofs.Marked.{in_force_is, stopped_mark, free_mark, kept_mark}
+use Rattle.recovery.proofs.Within.{within_of}
 use Rattle.recovery.proofs.cells.open_mark.Goals as goal
 
 pub returns-in_err-mark-clause-answers : goal.returns-in_err-mark-clause-answers
@@ -41,3 +42,6 @@ returns-clause-answers g c = λ told plan heads jumps.
         kept_mark layout c.args.mission.id is.0 cell.generation is.1 (held (mark_cell layout) old.seen) c.in_ok-mark.mark is.2 (judged.1 ∙ ap (kept_of c.args.mission.id) is.3),
       ),
     )
+
+pub returns-clause-within : goal.returns-clause-within
+returns-clause-within g c = λ has. within_of c.args.mission c.args.jumps.now (plain_marks c.in_ok-cell.found) c.in_ok-mark.mark has c.in_ok-mark.ensures.answers

@@ -66,3 +66,6 @@ returns-clause-step g c = (so_far_done c.args.layout c.args.kind c.args.banks c.
 
 pub returns-clause-answers : goal.returns-clause-answers
 returns-clause-answers g c = (so_far_done c.args.layout c.args.kind c.args.banks c.loop-seq.seq c.loop-seq.check c.loop-seq.jumps (g.D.Disk.state c.args.disk.now) (g.D.Disk.state c.loop-seq.disk) (search rules) c.loop-seq.invariant).1
+
+pub returns-clause-items : goal.returns-clause-items
+returns-clause-items g c = λ mission. (c.loop-seq.invariant.items, search rules, c.loop-seq.invariant.jumps_are mission)

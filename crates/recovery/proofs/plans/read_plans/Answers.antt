@@ -56,3 +56,6 @@ returns-clause-answers g c = λ told read.
     let fence = of_first a b first.still.seen first.time.tells (λ (l : List ℕ). items_fault c.args.layout Fence states.fence.bank states.fence.head states.fence.head.count l ≡ None) (λ t. (c.in_ok-_fence.ensures.answers t).0) told in
     let safe = of_first a d (second.still.seen ∙ first.still.seen) (second.time.tells ∙ first.time.tells) (λ (l : List ℕ). items_fault c.args.layout Safe states.safe.bank states.safe.head states.safe.head.count l ≡ None) (λ t. (c.in_ok-_safe.ensures.answers t).0) told in
     (plans_none c.args.layout states a.seen read mission.0 fence safe, mission.1 refl)
+
+pub returns-clause-items : goal.returns-clause-items
+returns-clause-items g c = c.in_ok-jumps.ensures.items refl

@@ -2,13 +2,13 @@ use Rattle.std.specs.Prelude.{Ok, Err, ◌≡◌, ◌+◌, ℕ, List, Option}
 use Rattle.std.proofs.Common.{subst, arith, ◌∙◌}
 use Rattle.mission_model.specs.declared.counts.Mark.{Mark}
 use Rattle.gated_cell.specs.declared.cell.GatedCell.{GatedCell}
-use Rattle.recovery.specs.declared.pass.Found.{Found}
+use Rattle.recovery.specs.declared.finding.Found.{Found}
 use Rattle.recovery.specs.Faults.{fault_behind}
 use Rattle.recovery.specs.Steps.{Step, Answers}
 use Rattle.recovery.specs.Found.{AllRead, reads_behind}
 use Rattle.recovery.proofs.Steps.{passed_on, step_then, step_as, step_stopped}
 use Rattle.recovery.proofs.Gathered.{of_first, before_mark, MarkStopped, mark_first, MarkFound, all_read, none_at_all}
-use Rattle.recovery.proofs.pass.find_behind.Goals as goal
+use Rattle.recovery.proofs.finding.find_behind.Goals as goal
 
 pub returns-in_err-jumps-clause-step : goal.returns-in_err-jumps-clause-step
 returns-in_err-jumps-clause-step g c =
@@ -80,3 +80,6 @@ returns-clause-answers g c = λ told.
     let there = of_first a d (two.still.seen ∙ one.still.seen) (two.time.tells ∙ one.time.tells) (λ (l : List ℕ). MarkFound layout states jumps cell mark l) c.in_ok-mark_cell.ensures.answers told in
     let all = all_read layout a.seen states jumps cell mark before there in
     (none_at_all layout a.seen states jumps cell mark before all, all)
+
+pub returns-clause-within : goal.returns-clause-within
+returns-clause-within g c = c.in_ok-mark_cell.ensures.within c.in_ok-jumps.ensures.items
