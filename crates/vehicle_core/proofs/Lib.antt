@@ -1,0 +1,17 @@
+mod Lists
+mod LinkLines
+mod NavLines
+mod WatchLines
+mod Sorting
+mod Runs
+mod Names
+mod PowerEnds
+mod TurnRuns
+mod ReadsOfLinks
+mod CoreSteps
+mod Seating
+mod Beginning
+mod ReadsOfStep
+mod ReadsOfTurns
+mod Histories
+mod Given
