@@ -21,7 +21,6 @@ use Rattle.vehicle_core.specs.declared.local.Role.TheVariants as role
 use Rattle.vehicle_core.specs.SharedState.{Counted}
 use Rattle.vehicle_core.specs.Steps.{RoleFits, RoleSuits}
 use Rattle.vehicle_core.specs.UploadFits.{BoardFits, DraftFits}
-use Rattle.vehicle_core.specs.Uploading.{IsUploading}
 
 -- the shared part: some arrivals were counted, and the board and the transfer fit one another
 pub record SharedFits (s : Shared) : Type 0 where
@@ -29,13 +28,11 @@ pub record SharedFits (s : Shared) : Type 0 where
   pub counted : Counted arrived s
   pub board : BoardFits s.transfer s.board
 
--- of the plan that a link brings some items were heard, and it has a new id; where an upload has begun it is that plan, and it has the
--- item that is requested
+-- of the plan that a link brings some items were heard, and it has a new id
 pub record LinkKnows (s : Shared) (l : LinkState) : Type 0 where
   pub heard : List Item
   pub hears : Heard l.session.stage heard
   pub draft : DraftFits s.transfer s.board.published (link_of l.session.stage heard)
-  pub uploads : IsUploading l.schedule (link_of l.session.stage heard)
 
 -- the adopted mission is no later one than the published, and the same where its id is the same; the requests that the
 -- Navigator has outstanding are those that it asked

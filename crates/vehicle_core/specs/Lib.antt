@@ -16,8 +16,6 @@ pub mod LineTells
 pub mod Records
 pub mod Steps
 pub mod UploadFits
-pub mod Uploading
-pub mod UploadingKept
 pub mod Fits
 pub mod CoreState
 pub mod Crew

@@ -35,7 +35,6 @@ use Rattle.vehicle_core.specs.LinkActs.{LinkFits, LinkMade, link_told}
 use Rattle.vehicle_core.specs.NavActs.{NavFits, NavMade, nav_told}
 use Rattle.vehicle_core.specs.Steps.{WorkerFits, number_of, RoleFits, RoleActs, Steps}
 use Rattle.vehicle_core.specs.UploadFits.{BoardFits}
-use Rattle.vehicle_core.specs.UploadingKept.{link_step_uploads}
 use Rattle.vehicle_core.specs.UploadLaws.{SameClients}
 use Rattle.vehicle_core.specs.Leaves.{Leaves, client_leaves, link_leaves, link_left, draft_left, watch_left}
 use Rattle.vehicle_core.specs.WorkerKept.{AnyClient, idle_service, taken_leaves, taken_fits, served_leaves, served_fits}
@@ -163,7 +162,7 @@ link_made_leaves s l made s' l' f fits k h =
       leaves = link_leaves s l s' l' f.arrived later h.keeps left.clients;
       stays = record { service = h.keeps.service; power = h.keeps.power };
       fits = h.keeps.fits;
-      knows = record { heard = led.heard'; hears = led.hears; draft = left.draft; uploads = link_step_uploads (shared_told s f.arrived) (link_told l k.heard) made (shared_told s' later) (link_told l' led.heard') k.uploads led.step };
+      knows = record { heard = led.heard'; hears = led.hears; draft = left.draft };
     }
 
 -- The Navigator.
