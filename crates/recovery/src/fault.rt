@@ -12,7 +12,7 @@ pub enum BootFault {
     /// No gate of the compat cell is open, and this is the first byte of the store. For a store to be made: this is its
     /// first byte, and not 0.
     NotAStore(u8),
-    /// The store has this version of its layout, which is not the one that is built here.
+    /// The store has this version, which is of no layout that is read here. For a store to be migrated: it is not of layout 1.
     UnknownVersion(u32),
     /// This cell is damaged: 0 the compat cell, 1 to 3 the states of mission, fence and safe points, 4 the mark.
     BadCell(u8),

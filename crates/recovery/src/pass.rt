@@ -123,13 +123,15 @@ pub fn boot<D: Disk>(disk: D) -> Result<(Banks<D>, BootState), (BootFault, D)>
     ensures just { IfOk result (λ up. IsTrue (D.state disk).tells → (plans : Plans) (mark : PlainMark) → StandsFor (D.state disk).seen plans mark → Tells up.1 plans mark × StandsIn Two (D.state up.0.disk).seen plans mark) }
     ensures some { IfOk result (λ up. IsTrue (D.state disk).tells → (plans : Plans) × (mark : PlainMark) × StandsFor (D.state disk).seen plans mark) }
     ensures images { IfOk result (λ up. LeavesOnly (D.state disk) (D.state up.0.disk) (IsOfBoot (D.state disk))) }
-    ensures steady { IfOk result (λ up. Steady (D.state disk).meter (D.state up.0.disk).meter × ((D.state up.0.disk).tells ≡ (D.state disk).tells)) }
+    ensures steady { IfOk result (λ up. Steady (D.state disk).meter (D.state up.0.disk).meter) }
+    ensures tells { IfOk result (λ up. (D.state up.0.disk).tells ≡ (D.state disk).tells) }
     ensures calls { IfOk result (λ up. BootCalls (items_of up.1.heads) (D.state disk) (D.state up.0.disk)) }
 
     ensures first { IfErr result (λ down. IsTrue (D.state disk).tells → StoppedBy (fault_in (D.state disk).seen) down.0) }
     ensures sound { IfErr result (λ down. IsTrue (D.state disk).tells → (plans : Plans) (mark : PlainMark) → StandsFor (D.state disk).seen plans mark → IsOfDisk down.0) }
     ensures back { IfErr result (λ down. LeavesOnly (D.state disk) (D.state down.1) (IsOfBoot (D.state disk))) }
-    ensures steady_back { IfErr result (λ down. Steady (D.state disk).meter (D.state down.1).meter × ((D.state down.1).tells ≡ (D.state disk).tells)) }
+    ensures steady_back { IfErr result (λ down. Steady (D.state disk).meter (D.state down.1).meter) }
+    ensures tells_back { IfErr result (λ down. (D.state down.1).tells ≡ (D.state disk).tells) }
     ensures refused { IfErr result (λ down. BootStops 1 (D.state disk) (D.state down.1) down.0) }
 {
     let mut disk = disk;

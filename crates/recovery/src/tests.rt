@@ -1,6 +1,6 @@
 // What no clause says: the first row of a store that is made, booted and not made again, its bytes written out, one store for
-// each fault, and at which calls of the disk a new store and a boot stop.
-ghost use Rattle.std.specs.Prelude.{◌≡◌, ◌≤◌, ◌+◌, IsTrue, length};
+// each fault, at which calls of the disk a new store and a boot stop, and the bytes of both layouts round a migration.
+ghost use Rattle.std.specs.Prelude.{◌≡◌, ◌≤◌, ◌+◌, length};
 ghost use Rattle.mission_model.specs.declared.limits.TheConstants.{STORE_BYTES};
 
 use crate::BootFault::{BadCell, BadItem, DiskFailed, NotAStore, PowerOff, UnknownVersion};
@@ -339,17 +339,12 @@ fn boot_once<D: Disk>(disk: D) -> (Result<BootState, BootFault>, D)
     }
 }
 
-/// What a boot of that store finds with this cut, byte 16 then, and what the next boot finds; and the disk again.
-fn found_moved<D: Disk>(
-    disk: D,
+/// What a boot of that store finds with this cut, byte 16 then, and what the next boot finds.
+fn found_moved(
+    alloc: Global,
     cut: CutAt,
-) -> (Option<BootFault>, u8, Result<BootState, BootFault>, D)
-    requires room { STORE_BYTES ≤ (D.state disk).meter.size }
-    requires can_cut { IsTrue (D.state disk).meter.can_cut }
-    ensures size { (D.state result.3).meter.size ≡ (D.state disk).meter.size }
-    ensures can_cut { (D.state result.3).meter.can_cut ≡ (D.state disk).meter.can_cut }
-{
-    let mut disk = disk;
+) -> Result<(Option<BootFault>, u8, Result<BootState, BootFault>), AllocError> {
+    let mut disk = MemoryDisk::new(alloc, STORE_BYTES, Vec::new(alloc))?;
     let _written = write_one(&mut disk);
     disk.arm(Some(cut));
     let (first, disk) = boot_once(disk);
@@ -358,8 +353,8 @@ fn found_moved<D: Disk>(
     disk.arm(None);
     disk.restart();
     let _read = disk.read_at(16, &mut gate);
-    let (second, disk) = boot_once(disk);
-    (first.err(), gate[0], second, disk)
+    let (second, _disk) = boot_once(disk);
+    Ok((first.err(), gate[0], second))
 }
 
 /// The ways in which a cut tears what is pending, and the gate of the second slot that a cut leaves while it is opened.
@@ -375,16 +370,14 @@ const TEARS: [(Tear, u8); 5] = [
 fn a_move_may_be_cut_in_each_of_its_calls(rt: HostRuntime) -> Result<(), Fail> {
     let alloc = rt.alloc();
     let up = Ok(told_of(1, 1, 1));
-    let mut disk = MemoryDisk::new(alloc, STORE_BYTES, Vec::new(alloc))?;
     for (tear, gate) in TEARS {
         for call in 1..15 {
-            let (first, left, second, back) = found_moved(disk, CutAt::Change(call, tear));
+            let (first, left, second) = found_moved(alloc, CutAt::Change(call, tear))?;
             assert_eq!(rt; first, Some(PowerOff), "{call} {tear:?}");
             assert_eq!(rt; second, up, "{call} {tear:?}");
             if call == 12 {
                 assert_eq!(rt; left, gate, "{tear:?}");
             }
-            disk = back;
         }
     }
     // It makes 14 calls and, with one item, 10 + 1 + 1 + 8 + 1 reads.
@@ -394,10 +387,9 @@ fn a_move_may_be_cut_in_each_of_its_calls(rt: HostRuntime) -> Result<(), Fail> {
         (CutAt::Read(22, Tear::New), None),
     ];
     for (cut, fault) in rows {
-        let (first, _left, second, back) = found_moved(disk, cut);
+        let (first, _left, second) = found_moved(alloc, cut)?;
         assert_eq!(rt; first, fault, "{cut:?}");
         assert_eq!(rt; second, up, "{cut:?}");
-        disk = back;
     }
     Ok(())
 }

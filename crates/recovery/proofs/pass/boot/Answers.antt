@@ -52,8 +52,10 @@ returns-in-Ok-clause-images g c =
     subst (λ d. LeavesOnly (g.D.Disk.state c.args.disk) (g.D.Disk.state d) (IsOfBoot (g.D.Disk.state c.args.disk))) (sym c.from_parts-banks.ensures.disk) c.in-Ok.ensures.images
 
 pub returns-in-Ok-clause-steady : goal.returns-in-Ok-clause-steady
-returns-in-Ok-clause-steady g c =
-    subst (λ d. Steady (g.D.Disk.state c.args.disk).meter (g.D.Disk.state d).meter × ((g.D.Disk.state d).tells ≡ (g.D.Disk.state c.args.disk).tells)) (sym c.from_parts-banks.ensures.disk) (c.in-Ok.ensures.steady, c.in-Ok.ensures.tells)
+returns-in-Ok-clause-steady g c = subst (λ d. Steady (g.D.Disk.state c.args.disk).meter (g.D.Disk.state d).meter) (sym c.from_parts-banks.ensures.disk) c.in-Ok.ensures.steady
+
+pub returns-in-Ok-clause-tells : goal.returns-in-Ok-clause-tells
+returns-in-Ok-clause-tells g c = subst (λ d. (g.D.Disk.state d).tells ≡ (g.D.Disk.state c.args.disk).tells) (sym c.from_parts-banks.ensures.disk) c.in-Ok.ensures.tells
 
 pub returns-in-Ok-clause-calls : goal.returns-in-Ok-clause-calls
 returns-in-Ok-clause-calls g c =
