@@ -15,3 +15,4 @@ mod ReadsOfStep
 mod ReadsOfTurns
 mod Histories
 mod Given
+mod Waiting

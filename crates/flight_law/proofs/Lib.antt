@@ -1,0 +1,4 @@
+mod Frames
+mod Ending
+mod Serving
+mod Taking
