@@ -15,4 +15,3 @@ mod ReadsOfStep
 mod ReadsOfTurns
 mod Histories
 mod Given
-mod Waiting

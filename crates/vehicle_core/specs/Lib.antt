@@ -16,9 +16,6 @@ pub mod LineTells
 pub mod Records
 pub mod Steps
 pub mod UploadFits
-pub mod Uploading
-pub mod UploadingKept
-pub mod Windows
 pub mod Fits
 pub mod CoreState
 pub mod Crew
@@ -30,7 +27,6 @@ pub mod WatchKept
 pub mod Turns
 pub mod ReadsAsked
 pub mod NavKept
-pub mod WindowsKept
 pub mod MachineLaws
 pub mod CoreLaws
 pub mod TakenLaws

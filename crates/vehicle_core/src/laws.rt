@@ -1,6 +1,6 @@
 //! Laws of all runs of the actors. They hold of every record that meets the definitions, whatever made it.
 
-ghost use Rattle.std.specs.Prelude.{◌≡◌, ◌<◌, [], ◌∷◌, ◌++◌, ℕ, List, Option, Some, length, map, true, false};
+ghost use Rattle.std.specs.Prelude.{◌≡◌, [], ◌∷◌, ◌++◌, ℕ, List, Option, Some, map, true, false};
 ghost use Rattle.mission_model.specs.declared.flight_line.Actor.{Actor};
 ghost use Rattle.mission_model.specs.declared.vehicle.BootState.{BootState};
 ghost use Rattle.mission_model.specs.BootStates.{StateInLimits};
@@ -12,25 +12,17 @@ ghost use Rattle.mission_model.specs.declared.request.Reply.TheVariants as reply
 ghost use Rattle.mission_model.specs.declared.schedule.BootScript.{BootScript};
 ghost use Rattle.request_board.specs.Watching.{Awaited};
 ghost use Rattle.request_board.specs.WatchLaw.{WatchRules};
-ghost use Rattle.vehicle_core.specs.Told.{SharedTold, ActorTold, BootTold, name_of, names_of, begun};
+ghost use Rattle.vehicle_core.specs.Told.{BootTold, name_of, names_of, begun};
 ghost use Rattle.vehicle_core.specs.Ready.{has_ready};
 ghost use Rattle.vehicle_core.specs.CoreRun.{LineStep, Leads, BootUp, Part, CoreRun, CoreSoFar};
 ghost use Rattle.vehicle_core.specs.Order.{ByTurns};
 ghost use Rattle.vehicle_core.specs.CoreState.{CoreState, CoreFits, Tells, finished_among};
 ghost use Rattle.turn_cell.specs.declared.seat_view.Entry.{Entry};
-ghost use Rattle.turn_cell.specs.Legal.{EachFits, Follows, locals_left, line_of};
+ghost use Rattle.turn_cell.specs.Legal.{Follows, locals_left, line_of};
 ghost use Rattle.vehicle_core.specs.declared.local.Local.{Local as Actors};
 ghost use Rattle.vehicle_core.specs.declared.shared.Shared.{Shared as SharedPart};
-ghost use Rattle.vehicle_core.specs.Steps.{number_of, Steps};
-ghost use Rattle.vehicle_core.specs.Fits.{LinkKnows, LocalFits, LocalSuits};
-ghost use Rattle.vehicle_core.specs.LinkActs.{LinkFits};
-ghost use Rattle.vehicle_core.specs.declared.link.Link.{Link as LinkPart};
-ghost use Rattle.mission_model.specs.declared.plan.Item.{Item};
-ghost use Rattle.mission_model.specs.declared.plan.PlanType.{PlanType};
-ghost use Rattle.mission_model.specs.declared.request.Client.TheVariants as client;
-ghost use Rattle.mission_model.specs.declared.schedule.InputLine.{InputLine};
-ghost use Rattle.mission_model.specs.declared.schedule.InputLine.TheVariants as input;
-ghost use Rattle.request_board.specs.BoardState.{open_asks};
+ghost use Rattle.vehicle_core.specs.Steps.{Steps};
+ghost use Rattle.vehicle_core.specs.Fits.{LocalSuits};
 ghost use Rattle.vehicle_core.specs.ReadsAsked.{NavsFit, ReadsAlong};
 ghost use Rattle.vehicle_core.specs.Turns.{Turn, Turns, actors_of, ending_of};
 ghost use Rattle.vehicle_core.specs.LineTells.{maker};
@@ -69,27 +61,14 @@ pub fn turns_of_the_core_are_a_run<W>()
     ensures whole { (rules : WatchRules W) (boot : BootScript) (watchers : List W) (front : List Line) (up : BootUp rules boot watchers front) (c : CoreState W) → Tells c.shared c.locals up.told → ((who : Actor) → has_ready up.told.shared who up.told.actors ≡ false) → Part rules boot watchers (front ++ ending_of c.shared.power (finished_among c.locals)) }
 {}
 
-/// Whatever turns the actors of a core take, and in any history of them as a machine: each read that a line asks names the id that
-/// is published at that line, and a seq below its count. The Navigator's windows are of plans that are published, or were before.
+/// Whatever turns the actors take, with whatever replies that suit: each read that a line asks names the id that is published
+/// at that line, and a seq below its count. Of a Navigator it is enough that its windows are of plans that were published.
 pub fn reads_name_published_items<W: Watcher>()
     ensures boot { (boot : BootScript) (state : BootState) (watchers : List W) → NavsFit (begun boot state watchers) }
-    ensures windows { (c : CoreState W) (t : BootTold W) → CoreFits W.waits c → Tells c.shared c.locals t → NavsFit t }
-    ensures asks { (c new : CoreState W) (turns : List Turn) (lines : List Line) (t : BootTold W) → CoreFits W.waits c → Tells c.shared c.locals t → Turns (record { works = W.works; tells = W.tells }) W.waits c turns lines new → (told : BootTold W) × ReadsAlong (record { works = W.works; tells = W.tells }) t lines told × Tells new.shared new.locals told }
-    ensures history { (s new : SharedPart) (ls : List (Actors W)) (history : List (Entry SharedPart (Actors W) (Option ReplyValue) Line)) (t : BootTold W) → EachFits number_of (LocalFits W.waits) s ls → Tells s ls t → Follows LocalSuits (Steps (record { works = W.works; tells = W.tells })) s ls history new → (told : BootTold W) × ReadsAlong (record { works = W.works; tells = W.tells }) t (map line_of history) told × Tells new (locals_left ls history) told }
+    ensures asks { (c new : CoreState W) (turns : List Turn) (lines : List Line) (t : BootTold W) → CoreFits W.waits c → Tells c.shared c.locals t → NavsFit t → Turns (record { works = W.works; tells = W.tells }) W.waits c turns lines new → (told : BootTold W) × ReadsAlong (record { works = W.works; tells = W.tells }) t lines told × Tells new.shared new.locals told × NavsFit told }
 {}
 
 /// The lines of any history of the actors as a machine lead on, and tell of what the history leaves.
 pub fn histories_are_runs<W>()
     ensures { (rules : WatchRules W) (s new : SharedPart) (ls : List (Actors W)) (history : List (Entry SharedPart (Actors W) (Option ReplyValue) Line)) (t : BootTold W) → Tells s ls t → Follows LocalSuits (Steps rules) s ls history new → (told : BootTold W) × Leads rules t (map line_of history) told × Tells new (locals_left ls history) told }
-{}
-
-/// A link's upload that has begun has the item that is requested, whenever nothing of the link is outstanding. So it is ready
-/// then, and goes on until it is acknowledged.
-pub fn begun_uploads_have_their_item()
-    ensures { (s : SharedPart) (l : LinkPart) (kind : PlanType) (items : List Item) (rest : List InputLine) → LinkFits s l → LinkKnows s l → open_asks s.board (client.Link l.number) ≡ [] → l.schedule.inputs ≡ input.Upload kind items ∷ rest → l.schedule.begun ≡ true → l.schedule.requested < length items }
-{}
-
-/// While the power is off nobody is ready.
-pub fn nobody_is_ready_without_power<W>()
-    ensures { (t : SharedTold) (who : Actor) (actors : List (ActorTold W)) → t.power ≡ false → has_ready t who actors ≡ false }
 {}

@@ -1,4 +1,0 @@
-mod Frames
-mod Ending
-mod Serving
-mod Taking

@@ -1,5 +1,0 @@
-pub mod Between
-pub mod Flew
-pub mod Recorded
-pub mod Downloads
-pub mod Breaches
