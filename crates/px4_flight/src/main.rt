@@ -2,10 +2,11 @@
 //! error, and ends with the number of the status.
 #![tactic(auto)]
 
-ghost use Rattle.std.specs.Prelude.{◌≡◌};
-ghost use Rattle.px4_flight.specs.Flushed.{after_flush};
+ghost use Rattle.std.specs.Prelude.{◌≡◌, is_err};
+ghost use Rattle.flight_status.specs.Statuses.{or_write_fault};
 
-use first_runner::{Status, flight};
+use disk_model::FileShelf;
+use flight_runner::{Status, flight};
 use io_edges::{Failed, StdSink, StdSource};
 use std::process::ExitCode;
 use std::{env, io};
@@ -49,16 +50,20 @@ fn command(rt: &HostRuntime, words: &[String]) -> Status {
         return Status::Memory;
     };
     let mut input = StdSource::new(rt.stdin());
-    let outcome = flight(rt.alloc(), words.as_slice(), &mut input, &mut output);
+    let mut shelf = FileShelf::new(rt);
+    let outcome = flight(
+        rt.alloc(),
+        words.as_slice(),
+        &mut input,
+        &mut output,
+        &mut shelf,
+    );
     after_flush(output.flush(), outcome.status)
 }
 
-/// The status once standard output was flushed: a flush that fails is a write fault, where all went well before.
+/// The status once standard output was flushed: a flush that fails is a write fault, where a text was to be given whole.
 fn after_flush(flushed: Result<(), Failed>, status: Status) -> Status
-    ensures { result ≡ after_flush flushed status }
+    ensures { result ≡ or_write_fault status (is_err flushed) }
 {
-    match (flushed, status) {
-        (Err(Failed), Status::Ok) => Status::WriteFault,
-        (_, status) => status,
-    }
+    status.or_write_fault(flushed.is_err())
 }

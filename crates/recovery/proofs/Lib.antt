@@ -8,6 +8,7 @@ mod Up
 mod Compat
 mod Within
 mod Moved
+mod LayoutOne
 mod Moving
 mod Telling
 mod Booted

@@ -5,3 +5,4 @@ pub mod Steps
 pub mod Found
 pub mod Migration
 pub mod Booting
+pub mod LayoutOne

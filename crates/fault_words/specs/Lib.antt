@@ -1,0 +1,4 @@
+pub mod Advice
+pub mod Places
+pub mod Found
+pub mod Explains

@@ -1,0 +1,2 @@
+pub mod StillMarked
+pub mod Restarts

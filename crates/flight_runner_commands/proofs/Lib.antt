@@ -1,0 +1,5 @@
+mod Turns
+mod BootRuns
+mod Texts
+mod WorkerTurns
+mod Crews

@@ -1,0 +1,3 @@
+pub mod Draws
+pub mod Repeats
+pub mod InLimits
