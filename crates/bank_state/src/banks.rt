@@ -1,6 +1,5 @@
-//! The store between two calls: a disk, and what is known of it. A plan goes into the spare bank of its type item by item,
-//! and one change of the state cell puts it in force.
-
+// The store between two calls: a disk, and what is known of it. A plan goes into the spare bank of its type item by item,
+// and one change of the state cell puts it in force.
 ghost use Rattle.dataman_layout.specs.declared.layout.Layout.TheVariants.{Two};
 ghost use Rattle.std.specs.Prelude.{◌≡◌, ◌⊎◌, ◌↔◌, ◌+◌, ◌-◌, ◌≤◌, ◌<◌, ◌^◌, ℕ, List, None, Some, IsTrue, IsSome, IfOk, IfErr, OnOk, OnErr, Err, slice_get};
 ghost use Rattle.mission_model.specs.PlanCode.{PlanValid, limit_of};

@@ -1,5 +1,4 @@
-//! A law on images.
-
+// A law on images.
 ghost use Rattle.std.specs.Prelude.{◌≡◌, ℕ, List};
 ghost use Rattle.mission_model.specs.PlainMark.{PlainMark};
 ghost use Rattle.bank_state.specs.Plans.{Plans};

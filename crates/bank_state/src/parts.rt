@@ -1,5 +1,4 @@
-//! What banks keep beside their disk.
-
+// What banks keep beside their disk.
 ghost use Rattle.std.specs.Prelude.{◌≡◌, ◌-◌};
 ghost use Rattle.bank_state.specs.Ledger.{banks_of, with_banks, cell_of, with_cell, after_plan, after_mark, after_refusal, after_settling};
 

@@ -1,5 +1,4 @@
-//! One record of a bank, read or written.
-
+// One record of a bank, read or written.
 ghost use Rattle.dataman_layout.specs.declared.layout.Layout.TheVariants.{Two};
 ghost use Rattle.std.specs.Prelude.{◌≡◌, ◌≤◌, ◌<◌, length, Some};
 ghost use Rattle.mission_model.specs.PlanCode.{limit_of};

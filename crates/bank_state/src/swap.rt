@@ -1,5 +1,4 @@
-//! The change of one cell: what is beside it comes through a sync before the gate is opened.
-
+// The change of one cell: what is beside it comes through a sync before the gate is opened.
 ghost use Rattle.std.specs.Prelude.{◌≡◌, ◌+◌, ◌*◌, ◌≤◌, ◌<◌, ◌^◌, ◌-◌, length, false, IsTrue, IfErr, OnOk, Err};
 ghost use Rattle.disk_model.specs.Disk.{Only};
 ghost use Rattle.disk_model.specs.Every.{Every, Run};

@@ -1,6 +1,5 @@
-//! What no clause says: the bytes of an upload, at which of its calls of the disk a failure leaves a doubt, which records a
-//! silent disk's read passes over, and that each call can succeed.
-
+// What no clause says: the bytes of an upload, at which of its calls of the disk a failure leaves a doubt, which records a
+// silent disk's read passes over, and that each call can succeed.
 ghost use Rattle.std.specs.Prelude.{◌≡◌, ◌+◌, ◌*◌, ◌≤◌, false, None, IfOk};
 ghost use Rattle.mission_model.specs.declared.limits.TheConstants.{STORE_BYTES};
 ghost use Rattle.mission_model.specs.declared.plan.PlanType.TheVariants.{Mission};

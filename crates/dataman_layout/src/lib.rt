@@ -13,7 +13,7 @@ mod state;
 pub use compat::{decode_compat, encode_compat, version_in};
 pub use item::{Record, decode_item, encode_item};
 pub use layout::{Layout, layout_of, limit_in, version_of};
-pub use mark::{decode_mark, decode_mark_one, encode_mark, encode_mark_one};
+pub use mark::{decode_mark, decode_mark_one, encode_mark};
 pub use state::{decode_state, decode_state_one, encode_state};
 
 #[cfg(test)]

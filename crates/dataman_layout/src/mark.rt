@@ -1,6 +1,6 @@
 //! The record of a mark: 135 bytes in layout 2, and 71 in layout 1, which has room for half as many pairs.
 
-ghost use Rattle.std.specs.Prelude.{◌≡◌, ◌+◌, ◌*◌, ◌≤◌, ◌<◌, ◌^◌, ◌++◌, ℕ, true, false, length, take, drop, get_or, replicate, Some, IfSome, IfNone};
+ghost use Rattle.std.specs.Prelude.{◌≡◌, ◌+◌, ◌*◌, ◌≤◌, ◌<◌, ◌^◌, ◌++◌, ℕ, true, false, length, take, drop, get_or, Some, IfSome, IfNone};
 ghost use Rattle.std.specs.List.{flat_map};
 ghost use Rattle.mission_model.specs.CountsList.{pairs_of};
 ghost use Rattle.mission_model.specs.Pairs.{rises_from};
@@ -32,49 +32,23 @@ const USED: usize = 2;
 /// The used number of a jump that has no pair.
 const NOT_USED: u16 = 0;
 
-/// The bytes of a mark in layout 2.
+/// The bytes of a mark in layout 2. Those of layout 1 are the first 71 of them, where it has at most 16 pairs.
 pub fn encode_mark(mark: &Mark) -> [u8; 135]
     ensures bytes { result ≡ mark_bytes (most_pairs Two) (plain_mark mark.now) }
     ensures read { mark_in (most_pairs Two) result ≡ Some (plain_mark mark.now) }
 {
     let mut bytes = [0; 135];
     let number = mark.counts.len();
-    fill(&mut bytes, TWO.pairs, mark, number);
+    put_u32(&mut bytes, ID, mark.id);
+    put_u16(&mut bytes, INDEX, mark.index);
+    put_u8(&mut bytes, NUMBER, number);
+    put_pairs(&mut bytes, &mark.counts, number);
     bytes
-}
-
-/// The bytes of a mark in layout 1, which has room for half as many pairs.
-pub fn encode_mark_one(mark: &Mark) -> [u8; 71]
-    requires few { length (pairs_of mark.now.counts) ≤ most_pairs One }
-    ensures bytes { result ≡ mark_bytes (most_pairs One) (plain_mark mark.now) }
-    ensures read { mark_in (most_pairs One) result ≡ Some (plain_mark mark.now) }
-{
-    let mut bytes = [0; 71];
-    let number = mark.counts.len();
-    fill(&mut bytes, ONE.pairs, mark, number);
-    bytes
-}
-
-/// Puts a mark of this number of pairs into the zeros of a record that may have `most`.
-fn fill(bytes: &mut [u8], most: u8, mark: &Mark, number: u8)
-    requires most { most ≤ MAX_JUMPS }
-    requires size { length bytes.old ≡ 7 + 4 * most }
-    requires zeros { bytes.old ≡ replicate (7 + 4 * most) 0 }
-    requires number { number ≡ length (pairs_of mark.now.counts) }
-    requires few { number ≤ most }
-    requires rise { rises_from 0 (pairs_of mark.now.counts) ≡ true }
-    ensures bytes { bytes.new ≡ mark_bytes most (plain_mark mark.now) }
-    ensures read { mark_in most bytes.new ≡ Some (plain_mark mark.now) }
-{
-    put_u32(bytes, ID, mark.id);
-    put_u16(bytes, INDEX, mark.index);
-    put_u8(bytes, NUMBER, number);
-    put_pairs(bytes, &mark.counts, number);
 }
 
 /// Puts the pairs of counts of this number.
 fn put_pairs(bytes: &mut [u8], counts: &Counts, number: u8)
-    requires size { 7 + 4 * number ≤ length bytes.old }
+    requires size { length bytes.old ≡ 135 }
     requires number { number ≡ length (pairs_of counts.now) }
     requires few { number ≤ MAX_JUMPS }
     ensures front { take (7 + 4 * number) bytes.new ≡ take 7 bytes.old ++ flat_map pair_bytes (pairs_of counts.now) }

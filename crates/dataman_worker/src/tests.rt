@@ -1,6 +1,5 @@
-//! What no clause says: that each service can succeed, which request each call of the disk belongs to, and that a boot behind a
-//! cut or a failure in it finds the store before that request or behind it.
-
+// What no clause says: that each service can succeed, which request each call of the disk belongs to, and that a boot behind a
+// cut or a failure in it finds the store before that request or behind it.
 ghost use Rattle.std.specs.Prelude.{◌≡◌, ◌+◌, ◌*◌, ◌≤◌, false, None, IsTrue, IfOk};
 ghost use Rattle.mission_model.specs.declared.limits.TheConstants.{STORE_BYTES};
 ghost use Rattle.mission_model.specs.declared.plan.PlanType.TheVariants.{Mission};

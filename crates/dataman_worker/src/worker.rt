@@ -1,6 +1,5 @@
-//! The services of a request. A doubt is settled first, reads included, since what a reply tells must stay true over a
-//! restart.
-
+// The services of a request. A doubt is settled first, reads included, since what a reply tells must stay true over a
+// restart.
 ghost use Rattle.std.specs.Prelude.{◌≡◌, ◌≢◌, ◌+◌, None, Err, IsTrue, IfErr, OnOk};
 ghost use Rattle.disk_model.specs.Every.{Steady};
 ghost use Rattle.disk_model.specs.Meters.{Uncut};

@@ -51,25 +51,3 @@ digit_at-fraction ws ds place h k = ap digit_value (get_or_default ds (place - l
 
 pub digit_at-behind : (ws ds : List ℕ) (place : ℕ) → length ws ≤ place → length ds ≤ place - length ws → 0 ≡ digit_at (ws ++ ds) place
 digit_at-behind ws ds place h k = sym (ap digit_value (get_or-eq_default (ws ++ ds) 48 (omega (arith, length-append ws ds))))
-
--- once a number is 0 behind the digits it stays so
-pub leading_zero : (ds : List ℕ) (n k : ℕ) → length ds ≤ n → leading_number ds n ≡ 0 → leading_number ds (n + k) ≡ 0
-leading_zero ds n zero h e = ap (leading_number ds) (omega arith) ∙ e
-leading_zero ds n (suc k) h e =
-    let same : n + suc k ≡ n + k + 1 = omega arith in
-    let digit : digit_at ds (n + k) ≡ 0 = ap digit_value (get_or-eq_default ds 48 (omega arith)) in
-    ap (leading_number ds) same ∙ leading_more ds (n + k) ∙ omega (arith, digit, leading_zero ds n k h e)
-
-pub zero_stays : (ws ds : List ℕ) (count limit number : ℕ) → number ≡ min (leading_number (ws ++ ds) (min count (length ws + length ds))) limit → number ≡ 0 → 0 ≡ min (leading_number (ws ++ ds) count) limit
-zero_stays ws ds count limit number h e = ⊎_elim
-    (λ l. let same : min count (length ws + length ds) ≡ count = omega arith in
-    sym e ∙ h ∙ ap (λ k. min (leading_number (ws ++ ds) k) limit) same)
-    (λ l. let same : min count (length ws + length ds) ≡ length ws + length ds = omega arith in
-    let here : number ≡ min (leading_number (ws ++ ds) (length ws + length ds)) limit = h ∙ ap (λ k. min (leading_number (ws ++ ds) k) limit) same in
-    let end : length ws + length ds + (count - (length ws + length ds)) ≡ count = omega arith in
-    ⊎_elim
-        (λ p. omega (arith, here, e, p))
-        (λ p. let zero_there = leading_zero (ws ++ ds) (length ws + length ds) (count - (length ws + length ds)) (omega (arith, length-append ws ds)) (omega (arith, p)) in
-        omega (arith, sym (ap (leading_number (ws ++ ds)) end) ∙ zero_there))
-        (cases_lt 0 (leading_number (ws ++ ds) (length ws + length ds))))
-    (cases_lt count (length ws + length ds))

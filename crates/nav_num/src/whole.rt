@@ -1,28 +1,27 @@
 //! A token of one to ten digits read as a whole number within a range.
 
-ghost use Rattle.std.specs.Prelude.{◌≡◌, ◌≤◌, length, position, None, Some, IfOk, IfErr};
+ghost use Rattle.std.specs.Prelude.{◌≡◌, ◌≤◌, length, position, None};
 ghost use Rattle.std.specs.Str.Parse.{digits_value};
 ghost use Rattle.nav_num.specs.Whole.{is_no_digit, whole_number, within};
 
 use crate::fault::NumFault;
-use crate::number::{value_of, with_digit};
+use crate::number::number_up_to;
 use crate::{MOST_DIGITS, MOST_NUMBER};
 
-/// The number that at most ten bytes write, or the place of the first of them that is no digit.
-fn digits(token: &[u8]) -> Result<u64, u8>
-    requires { length token.now ≤ MOST_DIGITS }
-    ensures digits { IfOk result (λ number. position is_no_digit token.now ≡ None) }
-    ensures number { IfOk result (λ number. number ≡ digits_value 10 token.now) }
-    ensures other { IfErr result (λ place. position is_no_digit token.now ≡ Some place) }
+/// The place of the first byte that is no digit.
+fn first_other(token: &[u8]) -> Option<usize>
+    ensures { result ≡ position is_no_digit token.now }
 {
-    let mut number = 0;
-    for (place, byte) in token.iter().enumerate() {
-        if !byte.is_ascii_digit() {
-            return Err(place as u8);
-        }
-        number = with_digit(number, value_of(*byte), MOST_NUMBER);
-    }
-    Ok(number)
+    token.iter().position(|byte| !byte.is_ascii_digit())
+}
+
+/// The number that at most ten digits write.
+fn digits(token: &[u8]) -> u64
+    requires few { length token.now ≤ MOST_DIGITS }
+    requires digits { position is_no_digit token.now ≡ None }
+    ensures { result ≡ digits_value 10 token.now }
+{
+    number_up_to(token, MOST_NUMBER)
 }
 
 /// A number, where it lies within the range.
@@ -48,8 +47,8 @@ pub fn read_whole(token: &[u8], least: u32, greatest: u32) -> Result<u32, NumFau
     if token.len() > MOST_DIGITS {
         return Err(NumFault::TooLong);
     }
-    match digits(token) {
-        Ok(number) => in_range(number, least, greatest),
-        Err(place) => Err(NumFault::BadDigit(place)),
+    match first_other(token) {
+        Some(place) => Err(NumFault::BadDigit(place as u8)),
+        None => in_range(digits(token), least, greatest),
     }
 }

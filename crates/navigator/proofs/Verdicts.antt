@@ -81,12 +81,3 @@ lacks_none kind p whole = sym (lacks_part kind p true (eq_true (length p.taken) 
 
 pub lacks_next : (kind : PlanType) (p : PlanTaken) (seq : ℕ) → length p.taken ≢ (count_of p.cache.head) → seq ≡ length p.taken → Some (kind, seq) ≡ lacking kind p
 lacks_next kind p seq not_whole at = ap (λ n. Some (kind, n)) at ∙ sym (lacks_part kind p false (eq_false (length p.taken) (count_of p.cache.head) not_whole))
-
--- a mission that is whole stays as it is
-pub keeps_mission : (params : Params) (home : Option Home) (uses : JumpUses) (fence : PlanTaken) (m0 m1 : MissionTaken) (items : List Item) → length fence.taken ≡ (count_of fence.cache.head) → m1.cache ≡ m0.cache → ShownTo m1 params home fence.taken items → length items ≡ count_of m1.cache.head → TakesOn params home uses fence m0 items None m1
-keeps_mission params home uses fence m0 m1 items whole same shown all =
-    let p : mission_plan m1 items ≡ taking uses (mission_plan m1 items) = taking-whole uses (mission_plan m1 items) all in
-    let taken : items ≡ whole_taking Mission uses m1.cache items = ap (λ (q : PlanTaken). q.taken) p in
-    takes_mission params home uses fence m0 m1 m1 items None whole same
-    (ap (λ (q : PlanTaken). q.cache) p, subst (λ (xs : List Item). ShownTo m1 params home fence.taken xs) taken shown)
-    (lacks_none Mission (record { kind = Mission; cache = m1.cache; taken = whole_taking Mission uses m1.cache items }) (ap (λ (xs : List Item). length xs) (sym taken) ∙ all))

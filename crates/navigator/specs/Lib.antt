@@ -7,7 +7,6 @@ pub mod OnMission
 pub mod OnReturn
 pub mod Meeting
 pub mod EventLaw
-pub mod InOrder
 pub mod Caches
 pub mod Begins
 pub mod NavCalls
@@ -19,4 +18,3 @@ pub mod OnePlan
 pub mod TakenOfOne
 pub mod LooksInTurn
 pub mod LooksAtTaking
-pub mod StayingInOrder

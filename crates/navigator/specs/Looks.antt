@@ -22,7 +22,7 @@ use Rattle.mission_model.specs.Feasible.{FirstBroken}
 use Rattle.request_board.specs.BoardState.{BoardState}
 use Rattle.client_cache.specs.CacheState.{CacheState, forgotten, id_of, count_of, known_at, in_window, window_end}
 use Rattle.client_cache.specs.Wants.{missing, missing_at, wanted, looked, reads, flying, Asks}
-use Rattle.leg_machine.specs.MachineState.{MachineState, made, set_to, after_reached}
+use Rattle.leg_machine.specs.MachineState.{MachineState, after_reached}
 use Rattle.return_mode.specs.ReturnState.{ReturnState, seq_of}
 use Rattle.return_mode.specs.ReturnState as back
 use Rattle.client_cache.specs.History.{CacheEvent, Looks, Aims, Forgets, CacheCall, Brings}
@@ -30,9 +30,6 @@ use Rattle.client_cache.specs.Knowing.{Knows, view_of, knows_after}
 use Rattle.client_cache.specs.Moves.{moved}
 use Rattle.navigator.specs.Begins.{Begins, whole_taking-begins}
 use Rattle.navigator.specs.Caches.{SamePlan, SamePlan-forgotten}
-use Rattle.navigator.specs.LooksInTurn.{length-flags}
-use Rattle.navigator.specs.LooksAtTaking.{whole-longer, flags-forgotten}
-use Rattle.navigator.specs.InOrder.{HasFlags, PlanInOrder}
 use Rattle.navigator.specs.Uses.{JumpUses}
 use Rattle.navigator.specs.Taking.{PlanTaken, taking, whole_taking, cache_behind, cache_past}
 use Rattle.navigator.specs.Judging.{no_uses, is_whole, mission_behind, first_lacking}
@@ -40,7 +37,7 @@ use Rattle.navigator.specs.Standing.{MarksState}
 use Rattle.navigator.specs.NavState.{NavTaken, cache_of, with_cache}
 use Rattle.navigator.specs.OnMission.{WaitsFor, IfFound, UnlessDone, ByVerdict, IfLacking, UnlessEmpty, plans_taken, found_at, looked_up, mission_count, uses_of, mode_after}
 use Rattle.navigator.specs.OnReturn.{ShowsIfFound, ShowsAt, points_behind, points_taken, return_taken, return_lacking, return_chosen, choice_kept, GoesAlong, SetsOut, IfReturnLacking, ByChoice}
-use Rattle.navigator.specs.EventLaw.{LooksBy, ReachesOn, ReachesBack, Reaches, ActsOn, legs_entering, mode_taken}
+use Rattle.navigator.specs.EventLaw.{LooksBy, ReachesOn, ReachesBack, Reaches, ActsOn, mode_taken}
 use Rattle.navigator.specs.Asking.{OwnWindows}
 
 -- Which seqs a look asks.
@@ -87,15 +84,13 @@ pub record KeepsPlan (p p' : PlanTaken) : Type 0 where
   pub same : SamePlan p.cache p'.cache
   pub knows : (plan : List Item) → Knows p.cache plan → Knows p'.cache plan
   pub begins : (plan : List Item) → Knows p.cache plan → Begins p.taken plan → Begins p'.taken plan
-  pub order : PlanInOrder p → PlanInOrder p'
 
--- so it is with all three plans, and the marks and the number of legs are the same
+-- so it is with all three plans, and the marks are the same
 pub record KeepsPlans (v v' : NavTaken) : Type 0 where
   pub mission : KeepsPlan v.mission v'.mission
   pub fence : KeepsPlan v.fence v'.fence
   pub safe : KeepsPlan v.safe v'.safe
   pub marks : v'.flight.marks ≡ v.flight.marks
-  pub legs : v'.flight.legs.count ≡ v.flight.legs.count
 
 pub keeps_same : (v v' : NavTaken) → KeepsPlans v v' → (kind : PlanType) → SamePlan (cache_of kind v) (cache_of kind v')
 keeps_same v v' h Mission = h.mission.same
@@ -106,18 +101,17 @@ same_itself : (c : CacheState) → SamePlan c c
 same_itself c = record { client = refl; kind = refl; head = refl }
 
 pub keeps_plan : (p : PlanTaken) → KeepsPlan p p
-keeps_plan p = record { same = same_itself p.cache; knows = λ plan h. h; begins = λ plan h b. b; order = λ o. o }
+keeps_plan p = record { same = same_itself p.cache; knows = λ plan h. h; begins = λ plan h b. b }
 
 plan_trans : (p q r : PlanTaken) → KeepsPlan p q → KeepsPlan q r → KeepsPlan p r
 plan_trans p q r h k = record {
   same = record { client = k.same.client ∙ h.same.client; kind = k.same.kind ∙ h.same.kind; head = k.same.head ∙ h.same.head };
   knows = λ plan n. k.knows plan (h.knows plan n);
   begins = λ plan n b. k.begins plan (h.knows plan n) (h.begins plan n b);
-  order = λ o. k.order (h.order o);
 }
 
 pub keeps_itself : (v : NavTaken) → KeepsPlans v v
-keeps_itself v = record { mission = keeps_plan v.mission; fence = keeps_plan v.fence; safe = keeps_plan v.safe; marks = refl; legs = refl }
+keeps_itself v = record { mission = keeps_plan v.mission; fence = keeps_plan v.fence; safe = keeps_plan v.safe; marks = refl }
 
 pub keeps_trans : (u v w : NavTaken) → KeepsPlans u v → KeepsPlans v w → KeepsPlans u w
 keeps_trans u v w h k = record {
@@ -125,24 +119,22 @@ keeps_trans u v w h k = record {
   fence = plan_trans u.fence v.fence w.fence h.fence k.fence;
   safe = plan_trans u.safe v.safe w.safe h.safe k.safe;
   marks = k.marks ∙ h.marks;
-  legs = k.legs ∙ h.legs;
 }
 
 -- another cache of the same plan
 pub record KeepsCache (c c' : CacheState) : Type 0 where
   pub same : SamePlan c c'
   pub knows : (plan : List Item) → Knows c plan → Knows c' plan
-  pub flags : HasFlags c → HasFlags c'
 
 cache_itself : (c : CacheState) → KeepsCache c c
-cache_itself c = record { same = same_itself c; knows = λ plan h. h; flags = λ f. f }
+cache_itself c = record { same = same_itself c; knows = λ plan h. h }
 
 -- a call on the cache that brings nothing
-quiet : (c c' : CacheState) (event : CacheEvent) → SamePlan c c' → (HasFlags c → HasFlags c') → CacheCall c event c' → ((seq : ℕ) (item : Item) → Brings c.kind (view_of c) seq item event → ⊥) → KeepsCache c c'
-quiet c c' event same flags call none = record { same = same; knows = λ plan. knows_after event c c' plan call (λ seq item brings. absurd (none seq item brings)); flags = flags }
+quiet : (c c' : CacheState) (event : CacheEvent) → SamePlan c c' → CacheCall c event c' → ((seq : ℕ) (item : Item) → Brings c.kind (view_of c) seq item event → ⊥) → KeepsCache c c'
+quiet c c' event same call none = record { same = same; knows = λ plan. knows_after event c c' plan call (λ seq item brings. absurd (none seq item brings)) }
 
 forgotten_quiet : (c : CacheState) (seq : ℕ) → KeepsCache c (forgotten c seq)
-forgotten_quiet c seq = quiet c (forgotten c seq) (Forgets seq) (SamePlan-forgotten c seq) (flags-forgotten c seq) refl (λ s item none. none)
+forgotten_quiet c seq = quiet c (forgotten c seq) (Forgets seq) (SamePlan-forgotten c seq) refl (λ s item none. none)
 
 cache_if : (b : Bool) (c d e : CacheState) → KeepsCache c d → KeepsCache c e → KeepsCache c (if b then d else e)
 cache_if true c d e h k = h
@@ -156,37 +148,24 @@ past_quiet c seq (Some item) = cache_itself c
 past_quiet c seq None = cache_if (is_some (known_at c seq)) c (forgotten c seq) c (forgotten_quiet c seq) (cache_itself c)
 
 flying_quiet : (c c' : CacheState) (seqs : List ℕ) → c' ≡ flying c seqs → KeepsCache c c'
-flying_quiet c c' seqs is = subst (KeepsCache c) (sym is) (quiet c (flying c seqs) (Looks seqs) (record { client = refl; kind = refl; head = refl }) (λ f. subst (λ (n : ℕ). count_of c.head ≤ n) (sym (length-flags c.in_flight seqs)) f) refl (λ s item none. none))
+flying_quiet c c' seqs is = subst (KeepsCache c) (sym is) (quiet c (flying c seqs) (Looks seqs) (record { client = refl; kind = refl; head = refl }) refl (λ s item none. none))
 
 pub moved_quiet : (c : CacheState) (seq : ℕ) → KeepsCache c (moved c seq (length c.known))
-moved_quiet c seq = quiet c (moved c seq (length c.known)) (Aims seq) (record { client = refl; kind = refl; head = refl }) (λ f. f) refl (λ s item none. none)
+moved_quiet c seq = quiet c (moved c seq (length c.known)) (Aims seq) (record { client = refl; kind = refl; head = refl }) refl (λ s item none. none)
 
 plan_cache : (p : PlanTaken) (c : CacheState) → KeepsCache p.cache c → KeepsPlan p (record p { cache = c })
-plan_cache p c h = record {
-  same = h.same;
-  knows = h.knows;
-  begins = λ plan n b. b;
-  order = λ o. record { taken = subst (λ (x : Option PlanHead). length p.taken ≤ count_of x) (sym h.same.head) o.taken; flags = h.flags o.flags };
-}
+plan_cache p c h = record { same = h.same; knows = h.knows; begins = λ plan n b. b }
 
 pub keeps_with : (kind : PlanType) (c : CacheState) (v : NavTaken) → KeepsCache (cache_of kind v) c → KeepsPlans v (with_cache kind c v)
-keeps_with Mission c v h = record { mission = plan_cache v.mission c h; fence = keeps_plan v.fence; safe = keeps_plan v.safe; marks = refl; legs = refl }
-keeps_with Fence c v h = record { mission = keeps_plan v.mission; fence = plan_cache v.fence c h; safe = keeps_plan v.safe; marks = refl; legs = refl }
-keeps_with Safe c v h = record { mission = keeps_plan v.mission; fence = keeps_plan v.fence; safe = plan_cache v.safe c h; marks = refl; legs = refl }
+keeps_with Mission c v h = record { mission = plan_cache v.mission c h; fence = keeps_plan v.fence; safe = keeps_plan v.safe; marks = refl }
+keeps_with Fence c v h = record { mission = keeps_plan v.mission; fence = plan_cache v.fence c h; safe = keeps_plan v.safe; marks = refl }
+keeps_with Safe c v h = record { mission = keeps_plan v.mission; fence = keeps_plan v.fence; safe = plan_cache v.safe c h; marks = refl }
 
 -- a plan is taken on
 plan_taking : (uses : JumpUses) (p : PlanTaken) → KeepsPlan p (taking uses p)
 plan_taking uses p =
     let behind : KeepsCache p.cache (cache_behind p.cache (length (whole_taking p.kind uses p.cache p.taken))) = behind_quiet p.cache (length (whole_taking p.kind uses p.cache p.taken)) in
-    record {
-      same = behind.same;
-      knows = behind.knows;
-      begins = λ plan n b. whole_taking-begins p.kind uses p.cache p.taken plan n b;
-      order = λ o. record {
-        taken = subst (λ (x : Option PlanHead). length (whole_taking p.kind uses p.cache p.taken) ≤ count_of x) (sym behind.same.head) (whole-longer p.kind uses p.cache p.taken o.taken).most_is;
-        flags = behind.flags o.flags;
-      };
-    }
+    record { same = behind.same; knows = behind.knows; begins = λ plan n b. whole_taking-begins p.kind uses p.cache p.taken plan n b }
 
 mission_taking : (b : Bool) (uses : JumpUses) (p : PlanTaken) → KeepsPlan p (mission_behind b uses p)
 mission_taking true uses p = plan_taking uses p
@@ -197,10 +176,10 @@ points_taking true p = plan_taking no_uses p
 points_taking false p = keeps_plan p
 
 pub keeps_taking : (v : NavTaken) → KeepsPlans v (plans_taken v)
-keeps_taking v = record { mission = mission_taking (is_whole (taking no_uses v.fence)) (uses_of v.flight) v.mission; fence = plan_taking no_uses v.fence; safe = keeps_plan v.safe; marks = refl; legs = refl }
+keeps_taking v = record { mission = mission_taking (is_whole (taking no_uses v.fence)) (uses_of v.flight) v.mission; fence = plan_taking no_uses v.fence; safe = keeps_plan v.safe; marks = refl }
 
 pub keeps_points : (v : NavTaken) → KeepsPlans v (points_taken v)
-keeps_points v = record { mission = keeps_plan v.mission; fence = plan_taking no_uses v.fence; safe = points_taking (is_whole (taking no_uses v.fence)) v.safe; marks = refl; legs = refl }
+keeps_points v = record { mission = keeps_plan v.mission; fence = plan_taking no_uses v.fence; safe = points_taking (is_whole (taking no_uses v.fence)) v.safe; marks = refl }
 
 keeps_if : (b : Bool) (v u w : NavTaken) → KeepsPlans v u → KeepsPlans v w → KeepsPlans v (if b then u else w)
 keeps_if true v u w h k = h
@@ -284,7 +263,7 @@ owed_same Fence v o = refl
 owed_same Safe v o = refl
 
 pub keeps_owed : (v : NavTaken) (o : Option (PlanType × ℕ)) → KeepsPlans v (record v { owed = o })
-keeps_owed v o = record { mission = keeps_plan v.mission; fence = keeps_plan v.fence; safe = keeps_plan v.safe; marks = refl; legs = refl }
+keeps_owed v o = record { mission = keeps_plan v.mission; fence = keeps_plan v.fence; safe = keeps_plan v.safe; marks = refl }
 
 wait_asks : (kind : PlanType) (seq : ℕ) (v : NavTaken) (b : BoardState) (given : NavWhat) (v' : NavTaken) (b' : BoardState) → OwnWindows v → WaitsFor kind seq v b given v' b' → AsksReads v b v' b'
 wait_asks kind seq v b given v' b' own w =
@@ -293,14 +272,14 @@ wait_asks kind seq v b given v' b' own w =
 
 -- Mode Mission.
 
-keeps_flight : (v : NavTaken) (mode : Mode) (legs : MachineState) → legs.count ≡ v.flight.legs.count → KeepsPlans v (record v { mode = mode; flight = record v.flight { legs = legs } })
-keeps_flight v mode legs count = record { mission = keeps_plan v.mission; fence = keeps_plan v.fence; safe = keeps_plan v.safe; marks = refl; legs = count }
+keeps_flight : (v : NavTaken) (mode : Mode) (legs : MachineState) → KeepsPlans v (record v { mode = mode; flight = record v.flight { legs = legs } })
+keeps_flight v mode legs = record { mission = keeps_plan v.mission; fence = keeps_plan v.fence; safe = keeps_plan v.safe; marks = refl }
 
 found_asks : (o : Option Item) (v : NavTaken) (b : BoardState) (given : NavWhat) (v' : NavTaken) (b' : BoardState) → OwnWindows v → IfFound o v b given v' b' → AsksReads v b v' b'
 found_asks None v b given v' b' own w = wait_asks Mission v.flight.legs.index v b given v' b' own w
 found_asks (Some item) v b given v' b' own s =
     let to : Mode = mode_after v.mode s.answer item in
-    look_asks Mission v.flight.legs.index v (record v { mode = to; flight = record v.flight { legs = v'.flight.legs } }) v' b b' own (keeps_flight v to v'.flight.legs s.done.count) refl s.asks s.rest
+    look_asks Mission v.flight.legs.index v (record v { mode = to; flight = record v.flight { legs = v'.flight.legs } }) v' b b' own (keeps_flight v to v'.flight.legs) refl s.asks s.rest
 
 fly_asks : (done : Bool) (v : NavTaken) (b : BoardState) (given : NavWhat) (v' : NavTaken) (b' : BoardState) → OwnWindows v → UnlessDone done v b given v' b' → AsksReads v b v' b'
 fly_asks true v b given v' b' own h = none_asked v v' b b' h.2 (subst (KeepsPlans v) (sym h.1) (keeps_itself v))
@@ -326,7 +305,7 @@ on_asks false v b given v' b' own h =
 -- Mode Return.
 
 keeps_way : (v : NavTaken) (way : Option ReturnState) → KeepsPlans v (record v { way = way })
-keeps_way v way = record { mission = keeps_plan v.mission; fence = keeps_plan v.fence; safe = keeps_plan v.safe; marks = refl; legs = refl }
+keeps_way v way = record { mission = keeps_plan v.mission; fence = keeps_plan v.fence; safe = keeps_plan v.safe; marks = refl }
 
 target_asks : (o : Option Item) (seq : ℕ) (r : ReturnState) (v : NavTaken) (b : BoardState) (given : NavWhat) (v' : NavTaken) (b' : BoardState) (r' : ReturnState) → OwnWindows v → ShowsIfFound o seq r v b given v' b' r' → AsksReads v b v' b'
 target_asks None seq r v b given v' b' r' own h = wait_asks Mission seq v b given v' b' own h.0
@@ -370,15 +349,8 @@ keeps_back : (o : Option ReturnState) (v : NavTaken) (given : NavWhat) (v' : Nav
 keeps_back None v given v' h = subst (KeepsPlans v) (sym h.1) (keeps_itself v)
 keeps_back (Some r) v given v' h = subst (KeepsPlans v) (sym h.1) (keeps_way v (Some (back.after_reached r)))
 
-reached_count : (legs : MachineState) → (after_reached legs).count ≡ legs.count
-reached_count legs = at (legs.at_leg)
-  where
-    at : (b : Bool) → (if b then made legs.count (legs.index + 1) legs.pairs else legs).count ≡ legs.count
-    at true = refl
-    at false = refl
-
 keeps_on : (v : NavTaken) (given : NavWhat) (v' : NavTaken) → ReachesOn v given v' → KeepsPlans v v'
-keeps_on v given v' h = subst (KeepsPlans v) (sym h.1) (keeps_flight v v.mode (after_reached v.flight.legs) (reached_count v.flight.legs))
+keeps_on v given v' h = subst (KeepsPlans v) (sym h.1) (keeps_flight v v.mode (after_reached v.flight.legs))
 
 keeps_reached : (m : Mode) (v : NavTaken) (given : NavWhat) (v' : NavTaken) → Reaches m v given v' → KeepsPlans v v'
 keeps_reached mode.Return v given v' h = keeps_back v.way v given v' h
@@ -386,19 +358,10 @@ keeps_reached mode.Hold v given v' h = keeps_on v given v' h
 keeps_reached mode.Mission v given v' h = keeps_on v given v' h
 
 keeps_position : (v : NavTaken) (p : Option (ℤ × ℤ)) → KeepsPlans v (record v { position = p })
-keeps_position v p = record { mission = keeps_plan v.mission; fence = keeps_plan v.fence; safe = keeps_plan v.safe; marks = refl; legs = refl }
-
-entering_count : (to : Mode) (legs : MachineState) → (legs_entering to legs).count ≡ legs.count
-entering_count mode.Mission legs = at (legs.index == legs.count)
-  where
-    at : (b : Bool) → (if b then set_to legs 0 else legs).count ≡ legs.count
-    at true = refl
-    at false = refl
-entering_count mode.Hold legs = refl
-entering_count mode.Return legs = refl
+keeps_position v p = record { mission = keeps_plan v.mission; fence = keeps_plan v.fence; safe = keeps_plan v.safe; marks = refl }
 
 keeps_mode : (v : NavTaken) (to : Mode) → KeepsPlans v (mode_taken v to)
-keeps_mode v to = record { mission = keeps_plan v.mission; fence = keeps_plan v.fence; safe = keeps_plan v.safe; marks = refl; legs = entering_count to v.flight.legs }
+keeps_mode v to = record { mission = keeps_plan v.mission; fence = keeps_plan v.fence; safe = keeps_plan v.safe; marks = refl }
 
 pub act_asks : (line : VehicleLine) (v : NavTaken) (b : BoardState) (given : NavWhat) (v' : NavTaken) (b' : BoardState) → OwnWindows v → ActsOn line v b given v' b' → AsksReads v b v' b'
 act_asks event.Tick v b given v' b' own h = by_asks v.mode v b given v' b' own h

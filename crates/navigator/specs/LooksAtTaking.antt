@@ -12,7 +12,6 @@ use Rattle.client_cache.specs.History as history
 use Rattle.client_cache.specs.Knowing.{step_to}
 use Rattle.client_cache.specs.Wants.{looked, Asks}
 use Rattle.navigator.specs.Caches.{SamePlan-behind, count-same}
-use Rattle.navigator.specs.InOrder.{HasFlags, PlanInOrder}
 use Rattle.navigator.specs.Uses.{JumpUses}
 use Rattle.navigator.specs.Begins.{known_next}
 use Rattle.navigator.specs.Taking.{PlanTaken, next_of, added, with_up_to, whole_taking, cache_behind, taking}
@@ -56,7 +55,7 @@ all-longer (suc n) kind uses c items =
     let more : suc n + length items ≡ suc (n + length items) = omega arith in
     subst (λ (m : ℕ). Longer c (length items) (with_up_to (suc n) kind uses c items) m) (sym more) (one-longer kind uses c (length items) (with_up_to n kind uses c items) (n + length items) (next_of kind uses c (with_up_to n kind uses c items)) refl (all-longer n kind uses c items))
 
-pub whole-longer : (kind : PlanType) (uses : JumpUses) (c : CacheState) (items : List Item) → length items ≤ count_of c.head → Longer c (length items) (whole_taking kind uses c items) (count_of c.head)
+whole-longer : (kind : PlanType) (uses : JumpUses) (c : CacheState) (items : List Item) → length items ≤ count_of c.head → Longer c (length items) (whole_taking kind uses c items) (count_of c.head)
 unfolding whole_taking
 whole-longer kind uses c items within =
     let most : count_of c.head - length items + length items ≡ count_of c.head = omega (arith, within) in
@@ -73,25 +72,26 @@ known-if : (b : Bool) (c d : CacheState) (from to : ℕ) → KnownUpTo c from to
 known-if true c d from to h k = h
 known-if false c d from to h k = k
 
+-- the cache has a flag for each seq of its plan
+abbrev pub HasFlags : CacheState → Type 0
+HasFlags c = count_of c.head ≤ length c.in_flight
+
 flags-if : (b : Bool) (c d : CacheState) → HasFlags c → HasFlags d → HasFlags (if b then c else d)
 flags-if true c d h k = h
 flags-if false c d h k = k
 
-pub flags-forgotten : (c : CacheState) (seq : ℕ) → HasFlags c → HasFlags (forgotten c seq)
-flags-forgotten c seq h = flags-if (in_window c seq) (known_with c seq None) c h h
-
 flags-behind : (c : CacheState) (seq : ℕ) → HasFlags c → HasFlags (cache_behind c seq)
-flags-behind c seq h = flags-if (nat_lt seq (count_of c.head) && is_some (known_at c seq)) (forgotten c seq) c (flags-forgotten c seq h) h
+flags-behind c seq h = flags-if (nat_lt seq (count_of c.head) && is_some (known_at c seq)) (forgotten c seq) c (flags-if (in_window c seq) (known_with c seq None) c h h) h
 
-pub looks-at-taking : (uses : JumpUses) (p : PlanTaken) (b : BoardState) (c' : CacheState) (b' : BoardState) → PlanInOrder p → LooksInTurn (taking uses p).cache b (length p.taken) (suc (length (taking uses p).taken - length p.taken)) c' b' → Asks (taking uses p).cache b (looked (taking uses p).cache b (length (taking uses p).taken)) c' b'
-looks-at-taking uses p b c' b' order looks =
+pub looks-at-taking : (uses : JumpUses) (p : PlanTaken) (b : BoardState) (c' : CacheState) (b' : BoardState) → HasFlags p.cache → length p.taken ≤ count_of p.cache.head → LooksInTurn (taking uses p).cache b (length p.taken) (suc (length (taking uses p).taken - length p.taken)) c' b' → Asks (taking uses p).cache b (looked (taking uses p).cache b (length (taking uses p).taken)) c' b'
+looks-at-taking uses p b c' b' flags within looks =
     let all : List Item = whole_taking p.kind uses p.cache p.taken in
     let c : CacheState = cache_behind p.cache (length all) in
-    let long : Longer p.cache (length p.taken) all (count_of p.cache.head) = whole-longer p.kind uses p.cache p.taken order.taken in
+    let long : Longer p.cache (length p.taken) all (count_of p.cache.head) = whole-longer p.kind uses p.cache p.taken within in
     let n : ℕ = length all - length p.taken in
     let same : length p.taken + n ≡ length all = omega (arith, long.least) in
     let known : KnownUpTo c (length p.taken) (length all) = known-if (nat_lt (length all) (count_of p.cache.head) && is_some (known_at p.cache (length all))) (forgotten p.cache (length all)) p.cache (length p.taken) (length all) (forgotten-known p.cache (length p.taken) (length all) long.known) long.known in
     let count : count_of c.head ≡ count_of p.cache.head = count-same p.cache c (SamePlan-behind p.cache (length all)) in
     let known' : KnownUpTo c (length p.taken) (length p.taken + n) = subst (KnownUpTo c (length p.taken)) (sym same) known in
     let within' : length p.taken + n ≤ count_of c.head = omega (arith, same, count, long.most_is) in
-    subst (λ (k : ℕ). Asks c b (looked c b k) c' b') same (looks-as-one n c b (length p.taken) c' b' (flags-behind p.cache (length all) order.flags) known' within' looks)
+    subst (λ (k : ℕ). Asks c b (looked c b k) c' b') same (looks-as-one n c b (length p.taken) c' b' (flags-behind p.cache (length all) flags) known' within' looks)

@@ -53,7 +53,7 @@ settled-behind c seq d (suc n) h =
 
 -- What is asked is settled then.
 
-pub length-flags : (flags : List Bool) (xs : List ℕ) → length (flags_with flags xs) ≡ length flags
+length-flags : (flags : List Bool) (xs : List ℕ) → length (flags_with flags xs) ≡ length flags
 length-flags flags [] = refl
 length-flags flags (x ∷ xs) = length-flags (slice_set flags x true) xs ∙ grind (arith, common_steps)
 

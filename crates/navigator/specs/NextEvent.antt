@@ -68,7 +68,7 @@ keeps_index v None = keeps_itself v
 keeps_index v (Some (id, seq)) = at_id (has_id v.mission.cache.head id)
   where
     at_id : (b : Bool) → KeepsPlans v (if b then record v { flight = record v.flight { legs = set_to v.flight.legs seq } } else v)
-    at_id true = record { mission = keeps_plan v.mission; fence = keeps_plan v.fence; safe = keeps_plan v.safe; marks = refl; legs = refl }
+    at_id true = record { mission = keeps_plan v.mission; fence = keeps_plan v.fence; safe = keeps_plan v.safe; marks = refl }
     at_id false = keeps_itself v
 
 -- what the mark leaves

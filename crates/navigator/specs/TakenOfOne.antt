@@ -67,7 +67,7 @@ all_anew : (b : Bool) (items plan : List Item) → b ≡ true → Begins (if b t
 all_anew true items plan is = record { rest = plan; whole = refl }
 all_anew false items plan is = absurd cc
 
-pub if_true : (b : Bool) (c d : CacheState) → b ≡ true → (if b then c else d) ≡ c
+if_true : (b : Bool) (c d : CacheState) → b ≡ true → (if b then c else d) ≡ c
 if_true true c d is = refl
 if_true false c d is = absurd cc
 
@@ -84,16 +84,16 @@ from_met false plans p head anew is news count h =
       begins = all_anew anew p.taken (plans (id_of (adopted p.cache head).head)) (news refl);
     }
 
-pub new_first : (a b : Bool) → a ≡ false → (not a || b) ≡ true
+new_first : (a b : Bool) → a ≡ false → (not a || b) ≡ true
 new_first true b is = absurd cc
 new_first false b is = refl
 
-pub new_second : (a b : Bool) → b ≡ false → (a || not b) ≡ true
+new_second : (a b : Bool) → b ≡ false → (a || not b) ≡ true
 new_second true b is = refl
 new_second false true is = absurd cc
 new_second false false is = refl
 
-pub new_only : (a : Bool) → a ≡ false → not a ≡ true
+new_only : (a : Bool) → a ≡ false → not a ≡ true
 new_only true is = absurd cc
 new_only false is = refl
 

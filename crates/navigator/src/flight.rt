@@ -6,14 +6,13 @@ ghost use Rattle.mission_model.specs.declared.request.Client.TheVariants as clie
 ghost use Rattle.mission_model.specs.CountsList.{pairs_of};
 ghost use Rattle.request_board.specs.BoardState.{outstanding};
 ghost use Rattle.leg_machine.specs.MachineState.{made, set_to, after_reached};
-ghost use Rattle.mission_model.specs.PlainMark.{plain_mark};
-ghost use Rattle.navigator.specs.Standing.{last_standing, mark_answered};
+ghost use Rattle.navigator.specs.Standing.{mark_answered};
 ghost use Rattle.navigator.specs.OnMission.{can_stand, uses_of, LegSteps};
-ghost use Rattle.navigator.specs.Meeting.{FlightMet, AsksMark, place_of};
+ghost use Rattle.navigator.specs.Meeting.{FlightMet, AsksMark};
 ghost use Rattle.navigator.specs.EventLaw.{legs_entering};
 
-use crate::marks::{Marks, is_of};
-use crate::uses::{JumpUses, can_stand};
+use crate::marks::{Marks, is_same_place};
+use crate::uses::JumpUses;
 use leg_machine::{LegMachine, LegOut};
 use mission_model::{Client, Counts, Item, Look, Mark, Mode, PlanHead, Request};
 use request_board::Board;
@@ -63,13 +62,6 @@ impl Flight {
         ensures { result ≡ uses_of self.now }
     {
         JumpUses::of(self.boot, self.legs.counts())
-    }
-
-    /// Whether an item can stand at a seq of a mission of so many. No counts are copied.
-    pub fn can_stand(&self, count: u16, seq: u16, item: &Item) -> bool
-        ensures { result ≡ can_stand (uses_of self.now) count seq item.now }
-    {
-        can_stand(&self.boot, self.legs.used(), count, seq, item)
     }
 
     /// Meets the published mission, which is a new one or the same.
@@ -124,34 +116,19 @@ impl Flight {
         requires { length self.old.marks.asked ≤ outstanding board.old client.Nav }
         ensures { AsksMark id self.old board.old self.new board.new }
     {
-        if self.is_marked(id) {
+        let mark = Mark {
+            id,
+            index: self.legs.index(),
+            counts: self.legs.counts(),
+        };
+        if is_same_place(self.marks.last(), &mark) {
             return;
         }
         if board.room(Client::Nav) == 0 {
             return;
         }
-        let mark = self.place(id);
         let _ = board.ask(Client::Nav, Request::SetMark(mark));
         self.marks.push(mark);
-    }
-
-    /// Whether the last standing mark is that of the place, in the mission of this id.
-    fn is_marked(&self, id: u32) -> bool
-        ensures { IsTrue result ↔ (plain_mark (last_standing self.now.marks) ≡ place_of id self.now) }
-    {
-        let index = self.legs.index();
-        is_of(self.marks.last(), id, index, self.legs.used())
-    }
-
-    /// The mark of the place, in the mission of this id.
-    fn place(&self, id: u32) -> Mark
-        ensures { plain_mark result ≡ place_of id self.now }
-    {
-        Mark {
-            id,
-            index: self.legs.index(),
-            counts: self.legs.counts(),
-        }
     }
 
     /// Whether each mark that was asked has its reply.

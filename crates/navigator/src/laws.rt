@@ -15,7 +15,7 @@ ghost use Rattle.client_cache.specs.Wants.{looked, Asks};
 ghost use Rattle.navigator.specs.Uses.{JumpUses as UsesValue};
 ghost use Rattle.navigator.specs.Taking.{PlanTaken, taking};
 ghost use Rattle.navigator.specs.LooksInTurn.{LooksInTurn, KnownUpTo};
-ghost use Rattle.navigator.specs.InOrder.{HasFlags, PlanInOrder, InOrder, StagesInOrder};
+ghost use Rattle.navigator.specs.LooksAtTaking.{HasFlags};
 ghost use Rattle.navigator.specs.NavState.{NavState, NavTaken, with_taken, cache_of};
 ghost use Rattle.navigator.specs.EventLaw.{EventLaw, CanTick, nav_at_boot};
 ghost use Rattle.navigator.specs.NavCalls.{NavCall, Does, IsOwn};
@@ -35,14 +35,6 @@ pub fn an_event_leaves_the_next()
     ensures needs { (n : NavState) (items : List ItemValue) (b : BoardState) → HasAsked (with_taken n items) b → StandsBeside n.mission.cache.head b → CanTick n b }
 {}
 
-/// The Navigator is in order from its boot on, whatever happens: the legs are those of the adopted mission, no more of a plan was
-/// taken than it has, and each window has a flag for each item of its plan. So it is between the steps of an event too.
-pub fn the_navigator_stays_in_order()
-    ensures boot { (params : ParamsValue) (home : Option HomeValue) (boot : BootState) → InOrder (nav_at_boot params home boot) }
-    ensures stays { (call : NavCall) (v : NavTaken) (b : BoardState) (v' : NavTaken) (b' : BoardState) → HasAsked v b → Does v b call v' b' → InOrder v → InOrder v' }
-    ensures acts { (v : NavTaken) (b : BoardState) (line : LineValue) (entry : EntryValue) (v' : NavTaken) (b' : BoardState) → HasAsked v b → InOrder v → (e : EventLaw v b line entry v' b') → StagesInOrder v b line entry v' b' e }
-{}
-
 /// Where boards publish, and replies bring, items of one plan for each type and id, what was taken of a type is at all times a
 /// beginning of the plan of the adopted id, and what is known is that plan's: after each step, and after any list of them from
 /// a boot on.
@@ -55,11 +47,11 @@ pub fn taken_of_one_plan()
 
 /// Looks in turn at items that are known and at the first behind them ask, together, what a look at that one alone asks. So a
 /// plan that is taken on and looked at where its first item is lacking asks what looks at each item in turn would ask, from the
-/// first that was not taken before. The cache is to have a flag for each seq of its plan, as it has in a Navigator that is in order.
+/// first that was not taken before. The cache is to have a flag for each seq of its plan, as one has that adopted it.
 pub fn looks_in_turn_ask_once()
     ensures known { (c : CacheState) (b : BoardState) (from n : ℕ) (c' : CacheState) (b' : BoardState) → HasFlags c → KnownUpTo c from (from + n) → from + n ≤ count_of c.head
         → LooksInTurn c b from (suc n) c' b' → Asks c b (looked c b (from + n)) c' b' }
-    ensures taking { (uses : UsesValue) (p : PlanTaken) (b : BoardState) (c' : CacheState) (b' : BoardState) → PlanInOrder p
+    ensures taking { (uses : UsesValue) (p : PlanTaken) (b : BoardState) (c' : CacheState) (b' : BoardState) → HasFlags p.cache → length p.taken ≤ count_of p.cache.head
         → LooksInTurn (taking uses p).cache b (length p.taken) (suc (length (taking uses p).taken - length p.taken)) c' b'
         → Asks (taking uses p).cache b (looked (taking uses p).cache b (length (taking uses p).taken)) c' b' }
 {}

@@ -14,10 +14,7 @@ mod uses;
 mod verdict;
 mod windows;
 
-pub use laws::{
-    an_event_leaves_the_next, looks_in_turn_ask_once, taken_of_one_plan,
-    the_navigator_stays_in_order,
-};
+pub use laws::{an_event_leaves_the_next, looks_in_turn_ask_once, taken_of_one_plan};
 pub use mission_model::BootMark;
 pub use navigator::Navigator;
 pub use taking::taken_is_a_beginning;

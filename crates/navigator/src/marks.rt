@@ -93,11 +93,11 @@ impl Marks {
     }
 }
 
-/// Whether a mark is of a place: it has this id, this index and the pairs of these counts.
-pub fn is_of(mark: &Mark, id: u32, index: u16, counts: &Counts) -> bool
-    ensures { IsTrue result ↔ (plain_mark mark.now ≡ record { id = id; index = index; pairs = pairs_of counts.now }) }
+/// Whether two marks are of one place: the same id, index and pairs.
+pub fn is_same_place(left: &Mark, right: &Mark) -> bool
+    ensures { IsTrue result ↔ (plain_mark left.now ≡ plain_mark right.now) }
 {
-    mark.id == id && mark.index == index && is_same_uses(&mark.counts, counts)
+    left.id == right.id && left.index == right.index && is_same_uses(&left.counts, &right.counts)
 }
 
 /// Whether two counts have the same pairs.

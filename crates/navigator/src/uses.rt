@@ -1,7 +1,6 @@
 //! How often jumps were used, as the boot's mark and as the counts say, and which items go with that.
 
 ghost use Rattle.std.specs.Prelude.{◌≡◌};
-ghost use Rattle.mission_model.specs.declared.plan.PlanType.TheVariants as kind;
 ghost use Rattle.mission_model.specs.Command.{jump_of};
 ghost use Rattle.mission_model.specs.CountsList.{pairs_of};
 ghost use Rattle.navigator.specs.Uses.{goes_with, allows_used, leaves_room};
@@ -49,26 +48,22 @@ impl JumpUses {
         ensures { result ≡ goes_with kind self.now seq item.now }
     {
         match kind {
-            PlanType::Mission => goes_with(&self.boot, &self.counts, seq, item),
+            PlanType::Mission => {
+                let allowed = allows_used(self.boot.used(seq), item);
+                allowed && leaves_room(&self.counts, seq, item)
+            }
             _ => true,
         }
     }
-}
 
-/// Whether an item of a mission may have this seq, beside the uses of the boot's mark and those that count now.
-fn goes_with(boot: &Counts, counts: &Counts, seq: u16, item: &Item) -> bool
-    ensures { result ≡ goes_with kind.Mission (record { boot = pairs_of boot.now; counts = pairs_of counts.now }) seq item.now }
-{
-    allows_used(boot.used(seq), item) && leaves_room(counts, seq, item)
-}
-
-/// Whether an item can stand at this seq of a mission of so many, beside these uses.
-pub fn can_stand(boot: &Counts, counts: &Counts, count: u16, seq: u16, item: &Item) -> bool
-    ensures { result ≡ can_stand (record { boot = pairs_of boot.now; counts = pairs_of counts.now }) count seq item.now }
-{
-    let goes_with = goes_with(boot, counts, seq, item);
-    let valid = check_item(PlanType::Mission, item).is_ok();
-    goes_with && valid && leads_off(count, seq, item)
+    /// Whether an item can stand at this seq of a mission of so many.
+    pub fn can_stand(&self, count: u16, seq: u16, item: &Item) -> bool
+        ensures { result ≡ can_stand self.now count seq item.now }
+    {
+        let goes_with = self.go_with(PlanType::Mission, seq, item);
+        let valid = check_item(PlanType::Mission, item).is_ok();
+        goes_with && valid && leads_off(count, seq, item)
+    }
 }
 
 /// Whether an item may have been used so often.

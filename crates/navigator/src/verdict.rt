@@ -6,12 +6,11 @@ ghost use Rattle.mission_model.specs.declared.plan.PlanType.TheVariants as kind;
 ghost use Rattle.client_cache.specs.CacheState.{count_of};
 ghost use Rattle.navigator.specs.Taking.{taking};
 ghost use Rattle.navigator.specs.Judging.{FedBy, TakesOn, no_uses, is_whole, lacking, or_else};
-ghost use Rattle.navigator.specs.OnMission.{uses_of};
 ghost use Rattle.navigator.specs.OnReturn.{points_behind};
 
-use crate::flight::Flight;
 use crate::taken_list::TakenList;
 use crate::taken_mission::TakenMission;
+use crate::uses::JumpUses;
 use mission_model::{Home, Params, PlanType};
 
 /// Takes the fence on. When its last vertex is taken the judge is given the fence.
@@ -36,22 +35,19 @@ pub fn take_plans(
     home: Option<Home>,
     fence: &mut TakenList,
     mission: &mut TakenMission,
-    flight: &Flight,
+    uses: &JumpUses,
 ) -> Option<(PlanType, u16)>
     requires { fence.old.kind ≡ kind.Fence }
     ensures fence { fence.new ≡ taking no_uses fence.old }
     ensures mission { (items : List ItemValue) → FedBy params home fence.old mission.old items
-        → TakesOn params home (uses_of flight.now) fence.new mission.old items result mission.new }
+        → TakesOn params home uses.now fence.new mission.old items result mission.new }
     ensures count { count_of mission.new.cache.head ≡ count_of mission.old.cache.head }
 {
     take_fence(params, home, fence, mission);
     if !fence.is_whole() {
         return Some((PlanType::Fence, fence.next_seq()));
     }
-    if mission.is_whole() {
-        return None;
-    }
-    mission.take_on(&flight.uses());
+    mission.take_on(uses);
     if mission.is_whole() {
         return None;
     }

@@ -2,11 +2,10 @@
 //! error, and ends with the number of the status.
 #![tactic(auto)]
 
-ghost use Rattle.std.specs.Prelude.{◌≡◌, is_err};
-ghost use Rattle.flight_status.specs.Statuses.{or_write_fault};
+ghost use Rattle.std.specs.Prelude.{◌≡◌};
+ghost use Rattle.px4_flight.specs.Flushed.{after_flush};
 
-use disk_model::FileShelf;
-use flight_runner::{Status, flight};
+use first_runner::{Status, flight};
 use io_edges::{Failed, StdSink, StdSource};
 use std::process::ExitCode;
 use std::{env, io};
@@ -50,20 +49,16 @@ fn command(rt: &HostRuntime, words: &[String]) -> Status {
         return Status::Memory;
     };
     let mut input = StdSource::new(rt.stdin());
-    let mut shelf = FileShelf::new(rt);
-    let outcome = flight(
-        rt.alloc(),
-        words.as_slice(),
-        &mut input,
-        &mut output,
-        &mut shelf,
-    );
+    let outcome = flight(rt.alloc(), words.as_slice(), &mut input, &mut output);
     after_flush(output.flush(), outcome.status)
 }
 
-/// The status once standard output was flushed: a flush that fails is a write fault, where a text was to be given whole.
+/// The status once standard output was flushed: a flush that fails is a write fault, where all went well before.
 fn after_flush(flushed: Result<(), Failed>, status: Status) -> Status
-    ensures { result ≡ or_write_fault status (is_err flushed) }
+    ensures { result ≡ after_flush flushed status }
 {
-    status.or_write_fault(flushed.is_err())
+    match (flushed, status) {
+        (Err(Failed), Status::Ok) => Status::WriteFault,
+        (_, status) => status,
+    }
 }

@@ -35,7 +35,7 @@ stands_of layout image plans mark told behind = record { layout = told; each = b
 abbrev pub IsOffLayout : Layout → ℕ → ℕ → Type 0
 IsOffLayout layout at n = (part : Part) → (rank part ≡ 0 → ⊥) → Apart (place_of layout part) (size_of layout part) at n
 
-pub count_within : (layout : Layout) (kind : PlanType) (bank : ℕ) (plan : StoredPlan) (h : Held) → NamesIn layout kind bank (head_of plan) h → length plan.items ≤ limit_in layout kind
+count_within : (layout : Layout) (kind : PlanType) (bank : ℕ) (plan : StoredPlan) (h : Held) → NamesIn layout kind bank (head_of plan) h → length plan.items ≤ limit_in layout kind
 count_within layout kind bank plan Empty names = absurd names
 count_within layout kind bank plan (Twins g) names = absurd names
 count_within layout kind bank plan (InForce s g payload) names = names.within

@@ -9,7 +9,6 @@ use Rattle.disk_model.specs.Disk.{DiskState, IsSound, Reads, Writes}
 use Rattle.disk_model.specs.Every.{Every, Run, Image, run_start, run_read, run_write, told_before}
 use Rattle.disk_model.specs.Moments.{leaves_weaker}
 use Rattle.disk_model.specs.Places.{field_apart, torn_wider}
-use Rattle.dataman_layout.specs.declared.layout.Layout.{Layout}
 use Rattle.dataman_layout.specs.declared.layout.Layout.TheVariants.{One, Two}
 use Rattle.dataman_layout.specs.Layouts.{limit_in}
 use Rattle.dataman_layout.specs.Places.{Bank, place_of, size_of, length_in, record_at}
@@ -19,7 +18,7 @@ use Rattle.recovery.specs.Migration.{IsCopied, AreCopied}
 abbrev pub Anything : List ℕ → Type 0
 Anything c = Unit {0}
 
-pub any : (disk : DiskState) → Every Anything disk
+any : (disk : DiskState) → Every Anything disk
 any disk = record { reads = λ told. tt; images = λ c left. tt }
 
 -- a run of calls in a range is one in a greater range
@@ -60,9 +59,8 @@ more_limit Safe = omega arith
 more_in_two : (kind : PlanType) (seq : ℕ) → seq < limit_in One kind → seq < limit_in Two kind
 more_in_two kind seq below = omega (arith, below, more_limit kind)
 
-pub more_items : (layout : Layout) (kind : PlanType) (count : ℕ) → count ≤ limit_in One kind → count ≤ limit_in layout kind
-more_items One kind count low = low
-more_items Two kind count low = omega (arith, low, more_limit kind)
+pub more_items : (kind : PlanType) (count : ℕ) → count ≤ limit_in One kind → count ≤ limit_in Two kind
+more_items kind count low = omega (arith, low, more_limit kind)
 
 -- One record more.
 module _ (kind : PlanType) (bank seq : ℕ) (old mid new : DiskState) (below : seq < limit_in One kind) where

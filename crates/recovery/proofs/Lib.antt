@@ -8,7 +8,6 @@ mod Up
 mod Compat
 mod Within
 mod Moved
-mod LayoutOne
 mod Moving
 mod Telling
 mod Booted

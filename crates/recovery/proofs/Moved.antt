@@ -16,7 +16,6 @@ use Rattle.dataman_layout.specs.Item.{item_in}
 use Rattle.dataman_layout.specs.Layouts.{limit_in, most_pairs}
 use Rattle.dataman_layout.specs.Mark.{plain_marks}
 use Rattle.dataman_layout.specs.State.{StateRecord}
-use Rattle.dataman_layout.specs.Places.{mark_slot}
 use Rattle.plan_store.specs.StoreState.{StoredPlan, first_mark}
 use Rattle.plan_store.specs.CanServe.{MarkFits}
 use Rattle.bank_state.specs.declared.parts.PlanBanks.{PlanBanks}
@@ -81,30 +80,26 @@ module _ (layout : Layout) (image : List ℕ) (states : States) (cell : GatedCel
   pub behind_read : Behind layout image (plans_found layout states image) (mark_found states mark)
   behind_read = record { each = each_read; stored = plain_marks mark; has = mark_read; is = refl }
 
--- a mark cell with new slots
-zero_held : (layout : Layout) → held (record { at = 0; slot_bytes = mark_slot layout }) (replicate (2 * mark_slot layout) 0) ≡ Empty
-zero_held One = refl
-zero_held Two = refl
+-- a mark cell of layout 2 with new slots
+zero_held : held (record { at = 0; slot_bytes = 144 }) (replicate 288 0) ≡ Empty
+zero_held = refl
 
-none_held : (layout : Layout) (image : List ℕ) → field (mark_cell layout).at (2 * mark_slot layout) image ≡ replicate (2 * mark_slot layout) 0 → held (mark_cell layout) image ≡ Empty
-none_held One image here = held_in image (replicate 160 0) 128 160 0 80 here (omega arith) (omega arith) ∙ zero_held One
-none_held Two image here = held_in image (replicate 288 0) 65632 288 0 144 here (omega arith) (omega arith) ∙ zero_held Two
+fits_of : (mission : StoredPlan) (mark : PlainMark) (h : Held) → HasMarkIn One mission (Some mark) h → MarkFits mark mission
+fits_of mission mark Empty has = absurd cc
+fits_of mission mark (Twins g) has = absurd has
+fits_of mission mark (InForce s g payload) has = has.2.1
 
-pub fits_of : (mission : StoredPlan) (o : Option PlainMark) (h : Held) → HasMarkIn One mission o h → IfSome o (λ mark. MarkFits mark mission)
-fits_of mission None h has = tt
-fits_of mission (Some mark) Empty has = absurd cc
-fits_of mission (Some mark) (Twins g) has = absurd has
-fits_of mission (Some mark) (InForce s g payload) has = has.2.1
-
-pub mark_put : (layout : Layout) (mission : StoredPlan) (o : Option PlainMark) (slots image : List ℕ) → IfSome o (λ mark. MarkFits mark mission) → AreMarkSlots layout o slots → field (mark_cell layout).at (2 * mark_slot layout) image ≡ slots → HasMarkIn layout mission o (held (mark_cell layout) image)
-mark_put layout mission None slots image fits are here = subst (λ (x : Held). HasMarkIn layout mission None x) (sym (none_held layout image (here ∙ are))) refl
-mark_put layout mission (Some mark) slots image fits are here =
-    let there : held (mark_cell layout) image ≡ InForce false 1 are.0 = has_new (mark_cell layout) are.0 image (record { slot = omega (arith, are.2); bytes = here ∙ are.1 }) in
-    subst (λ (x : Held). HasMarkIn layout mission (Some mark) x) (sym there) (mark, are.3, (refl, fits))
+mark_put : (mission : StoredPlan) (o : Option PlainMark) (h : Held) (slots image : List ℕ) → HasMarkIn One mission o h → AreMarkSlots o slots → field (mark_cell Two).at 288 image ≡ slots → HasMarkIn Two mission o (held (mark_cell Two) image)
+mark_put mission None h slots image has are here =
+    let empty : held (mark_cell Two) image ≡ Empty = held_in image (replicate 288 0) (mark_cell Two).at 288 0 144 (here ∙ are) (omega arith) (omega arith) ∙ zero_held in
+    subst (λ (x : Held). HasMarkIn Two mission None x) (sym empty) refl
+mark_put mission (Some mark) h slots image has are here =
+    let there : held (mark_cell Two) image ≡ InForce false 1 are.0 = has_new (mark_cell Two) are.0 image (record { slot = omega (arith, are.2); bytes = here ∙ are.1 }) in
+    subst (λ (x : Held). HasMarkIn Two mission (Some mark) x) (sym there) (mark, are.3, (refl, fits_of mission mark h has))
 
 module _ (states : States) (mark : Option Mark) (cell : GatedCell) (old new : List ℕ) (are : AreStates One states) (read : AllRead One old states cell mark) (put : IsPutBehind states (plain_marks mark) old new) where
   -- a plan whose records were copied
-  plan_put : (kind : PlanType) (banks : PlanBanks) → HasPlanIn One kind (plan_read One kind banks.bank banks.head old) old → BanksIn One kind banks old → plan_fault One kind old ≡ None → AreCopied kind banks.bank banks.head.count old new → HasNewState Two kind banks.head new
+  plan_put : (kind : PlanType) (banks : PlanBanks) → HasPlanIn One kind (plan_read One kind banks.bank banks.head old) old → BanksIn One kind banks old → plan_fault One kind old ≡ None → AreCopied kind banks.bank banks.head.count old new → HasNewState kind banks.head new
       → HasPlanIn Two kind (plan_read One kind banks.bank banks.head old) new
   plan_put kind banks has reads none copied state =
       let plan = plan_read One kind banks.bank banks.head old in
@@ -129,7 +124,7 @@ module _ (states : States) (mark : Option Mark) (cell : GatedCell) (old new : Li
   behind_put = record {
     each = each_put;
     stored = plain_marks mark;
-    has = mark_put Two (plans_found One states old).mission (plain_marks mark) put.mark.slots new (fits_of (plans_found One states old).mission (plain_marks mark) (held (mark_cell One) old) (mark_read One old states cell mark are read)) put.mark.are put.mark.here;
+    has = mark_put (plans_found One states old).mission (plain_marks mark) (held (mark_cell One) old) put.mark.slots new (mark_read One old states cell mark are read) put.mark.are put.mark.here;
     is = refl;
   }
 

@@ -65,7 +65,7 @@ copied_from kind bank n old mid new low torn copied seq below = record {
 }
 
 -- so do a state
-pub state_stays : (kind : PlanType) (head : PlanHead) (part : Part) (mid new : List ℕ) → (rank (State kind) ≡ rank part → ⊥) → Torn (place_of Two part) (size_of Two part) mid new → HasNewState Two kind head mid → HasNewState Two kind head new
+pub state_stays : (kind : PlanType) (head : PlanHead) (part : Part) (mid new : List ℕ) → (rank (State kind) ≡ rank part → ⊥) → Torn (place_of Two part) (size_of Two part) mid new → HasNewState kind head mid → HasNewState kind head new
 state_stays kind head part mid new other torn has = record {
   payload = has.payload;
   is = record {
@@ -146,11 +146,11 @@ module _ (a b c : DiskState) (run1 : Run (place_of Two (State Mission)) (size_of
     told_1 : IsTrue d.tells → IsTrue b.tells
     told_1 told = told_back _ _ Anything b c run2 (told_2 told)
 
-    pub all_states : (states : States) → (IsTrue b.tells → HasNewState Two Mission states.mission.head b.seen) → (IsTrue c.tells → HasNewState Two Fence states.fence.head c.seen)
-        → (IsTrue d.tells → HasNewState Two Safe states.safe.head d.seen) → IsTrue d.tells → HaveNewStates states d.seen
+    pub all_states : (states : States) → (IsTrue b.tells → HasNewState Mission states.mission.head b.seen) → (IsTrue c.tells → HasNewState Fence states.fence.head c.seen)
+        → (IsTrue d.tells → HasNewState Safe states.safe.head d.seen) → IsTrue d.tells → HaveNewStates states d.seen
     all_states states state1 state2 state3 told = each
       where
-        each : (kind : PlanType) → HasNewState Two kind (banks_among states kind).head d.seen
+        each : (kind : PlanType) → HasNewState kind (banks_among states kind).head d.seen
         each Mission =
             state_stays Mission states.mission.head (State Safe) c.seen d.seen (λ same. absurd (omega (arith, same))) (run3.reads told)
             (state_stays Mission states.mission.head (State Fence) b.seen c.seen (λ same. absurd (omega (arith, same))) (run2.reads (told_2 told)) (state1 (told_1 told)))
@@ -176,7 +176,7 @@ module _ (a b c d : DiskState) (run1 : RunsBehind a b) (run2 : RunsBehind b c) (
     synced_behind = run_sync (length_in One) (STORE_BYTES - length_in One) Anything a d z result syncs (any z) marked_behind
 
     pub put_there : (states : States) (mark : Option PlainMark) → AreStates One states → (IsTrue b.tells → AreAllCopied states a.seen b.seen) → ((old : List ℕ) → IsTrue c.tells → AreAllCopied states old b.seen → AreAllCopied states old c.seen)
-        → (IsTrue c.tells → HaveNewStates states c.seen) → (IsTrue d.tells → HasNewMark Two mark d.seen) → IsTrue z.tells → IsPutBehind states mark a.seen z.seen
+        → (IsTrue c.tells → HaveNewStates states c.seen) → (IsTrue d.tells → HasNewMark mark d.seen) → IsTrue z.tells → IsPutBehind states mark a.seen z.seen
     put_there states mark are copied left named marked told =
         let told_d : IsTrue d.tells = subst (λ (x : Bool). IsTrue x) syncs.time.tells told in
         let told_c = told_back _ _ Anything c d run3 told_d in

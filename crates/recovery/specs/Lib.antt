@@ -5,4 +5,3 @@ pub mod Steps
 pub mod Found
 pub mod Migration
 pub mod Booting
-pub mod LayoutOne

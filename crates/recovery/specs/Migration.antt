@@ -9,10 +9,9 @@ use Rattle.mission_model.specs.declared.plan.PlanHead.{PlanHead}
 use Rattle.mission_model.specs.declared.plan.PlanType.{PlanType}
 use Rattle.mission_model.specs.PlainMark.{PlainMark}
 use Rattle.gated_cell.specs.declared.place.CellPlace.{CellPlace}
-use Rattle.dataman_layout.specs.declared.layout.Layout.{Layout}
 use Rattle.dataman_layout.specs.declared.layout.Layout.TheVariants.{One, Two}
 use Rattle.dataman_layout.specs.Layouts.{limit_in, most_pairs}
-use Rattle.dataman_layout.specs.Places.{record_at, length_in, mark_slot}
+use Rattle.dataman_layout.specs.Places.{record_at, length_in}
 use Rattle.dataman_layout.specs.State.{StateRecord}
 use Rattle.dataman_layout.specs.Mark.{MarkRecord}
 use Rattle.bank_state.specs.Plans.{Plans}
@@ -29,22 +28,22 @@ pub record HasNew (place : CellPlace) (payload : List ℕ) (image : List ℕ) : 
   pub slot : length payload + 9 ≡ place.slot_bytes
   pub bytes : field place.at (2 * place.slot_bytes) image ≡ new_slots payload
 
--- the state cell of a type is new and names bank 0 and this plan
-pub record HasNewState (layout : Layout) (kind : PlanType) (head : PlanHead) (image : List ℕ) : Type 0 where
+-- the state cell of a type in layout 2 is new and names bank 0 and this plan
+pub record HasNewState (kind : PlanType) (head : PlanHead) (image : List ℕ) : Type 0 where
   pub payload : List ℕ
-  pub is : HasNew (state_cell layout kind) payload image
-  pub named : StateRecord (limit_in layout kind) payload 0 head
+  pub is : HasNew (state_cell Two kind) payload image
+  pub named : StateRecord (limit_in Two kind) payload 0 head
 
 -- both slots of a mark cell that has this mark, or no open gate
-abbrev pub AreMarkSlots : Layout → Option PlainMark → List ℕ → Type 0
-AreMarkSlots layout None slots = slots ≡ replicate (2 * mark_slot layout) 0
-AreMarkSlots layout (Some mark) slots = (payload : List ℕ) × (slots ≡ new_slots payload) × (length payload ≡ 7 + 4 * most_pairs layout) × MarkRecord (most_pairs layout) payload mark
+abbrev pub AreMarkSlots : Option PlainMark → List ℕ → Type 0
+AreMarkSlots None slots = slots ≡ replicate 288 0
+AreMarkSlots (Some mark) slots = (payload : List ℕ) × (slots ≡ new_slots payload) × (length payload ≡ 135) × MarkRecord (most_pairs Two) payload mark
 
--- the mark cell has such slots
-pub record HasNewMark (layout : Layout) (mark : Option PlainMark) (image : List ℕ) : Type 0 where
+-- the mark cell of layout 2 has such slots
+pub record HasNewMark (mark : Option PlainMark) (image : List ℕ) : Type 0 where
   pub slots : List ℕ
-  pub are : AreMarkSlots layout mark slots
-  pub here : field (mark_cell layout).at (2 * mark_slot layout) image ≡ slots
+  pub are : AreMarkSlots mark slots
+  pub here : field (mark_cell Two).at 288 image ≡ slots
 
 -- the record of a seq of a bank of layout 1 stands in bank 0 of layout 2
 pub record IsCopied (kind : PlanType) (bank seq : ℕ) (old new : List ℕ) : Type 0 where
@@ -60,13 +59,13 @@ AreAllCopied states old new = (kind : PlanType) → AreCopied kind (banks_among 
 
 -- the state cells of layout 2 are new and name these plans in bank 0
 abbrev pub HaveNewStates : States → List ℕ → Type 0
-HaveNewStates states image = (kind : PlanType) → HasNewState Two kind (banks_among states kind).head image
+HaveNewStates states image = (kind : PlanType) → HasNewState kind (banks_among states kind).head image
 
 -- what stands behind the compat cell in layout 2 once all was put there
 pub record IsPutBehind (named : States) (stored : Option PlainMark) (old new : List ℕ) : Type 0 where
   pub items : AreAllCopied named old new
   pub states : HaveNewStates named new
-  pub mark : HasNewMark Two stored new
+  pub mark : HasNewMark stored new
 
 -- how many items the plans have that states name
 abbrev pub items_named : States → ℕ

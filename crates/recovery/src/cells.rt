@@ -1,5 +1,4 @@
-//! The cells of a store, opened in the order of a boot.
-
+// The cells of a store, opened in the order of a boot.
 ghost use Rattle.dataman_layout.specs.Layouts.{limit_in, most_pairs};
 ghost use Rattle.dataman_layout.specs.State.{StateRecord, state_in};
 ghost use Rattle.std.specs.Prelude.{◌≡◌, ◌+◌, ◌*◌, ◌^◌, ◌<◌, ◌≤◌, ◌-◌, false, get_or, length, IsTrue, IfSome, IfOk, IfErr};

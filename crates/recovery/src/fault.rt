@@ -1,5 +1,4 @@
-//! Why a store was not made, or not found.
-
+// Why a store was not made, or not found.
 ghost use Rattle.std.specs.Prelude.{◌≡◌};
 ghost use Rattle.disk_model.specs.declared.disk.DiskFault.TheVariants as fault;
 ghost use Rattle.recovery.specs.declared.fault.BootFault.TheVariants.{DiskFailed, PowerOff};

@@ -1,5 +1,4 @@
-//! What stands behind the compat cell of a store: the cells and the plans, found by one pass of reads.
-
+// What stands behind the compat cell of a store: the cells and the plans, found by one pass of reads.
 ghost use Rattle.std.specs.Prelude.{false, ◌≡◌, ◌≤◌, IsTrue, IfOk, IfSome};
 ghost use Rattle.mission_model.specs.declared.limits.TheConstants.{STORE_BYTES};
 ghost use Rattle.mission_model.specs.PlainMark.{plain_mark};

@@ -1,5 +1,4 @@
-//! A new store.
-
+// A new store.
 ghost use Rattle.std.specs.Prelude.{◌≡◌, ◌⊎◌, ◌≤◌, ◌+◌, ℕ, List, [], None, get_or, IsTrue, IfErr, OnOk};
 ghost use Rattle.mission_model.specs.declared.limits.TheConstants.{STORE_BYTES};
 ghost use Rattle.disk_model.specs.Disk.{Only};
@@ -66,7 +65,7 @@ fn empty_cells() -> [u8; CELL_BYTES]
 }
 
 /// Finds that the first byte of the store is 0, by a sync and a read.
-pub fn check_unused<D: Disk>(disk: &mut D) -> Result<(), BootFault>
+fn check_unused<D: Disk>(disk: &mut D) -> Result<(), BootFault>
     ensures kept { Keeps (D.state disk.old) (D.state disk.new) }
     ensures durable { OnOk result (Only (D.state disk.new).seen (D.state disk.new).images) }
     ensures unused { OnOk result (IsTrue (D.state disk.new).tells → get_or (D.state disk.new).seen 0 0 ≡ 0) }

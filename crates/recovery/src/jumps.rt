@@ -1,6 +1,5 @@
-//! How often the jumps of a mission repeat, kept while it is read, so that a mark of it can be judged without reading its items
-//! again. At most as many are kept as a mission has jumps.
-
+// How often the jumps of a mission repeat, kept while it is read, so that a mark of it can be judged without reading its items
+// again. At most as many are kept as a mission has jumps.
 ghost use Rattle.std.specs.Prelude.{◌≡◌, List, None, true, nat_le};
 ghost use Rattle.std.specs.List.{list_all};
 ghost use Rattle.mission_model.specs.declared.plan.Item.{Item};

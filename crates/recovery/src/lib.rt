@@ -8,18 +8,14 @@ mod fault;
 mod finding;
 mod init;
 mod jumps;
-mod layout_one;
 mod migration;
 mod pass;
 mod plans;
 
 pub use fault::BootFault;
 pub use init::init_store;
-pub use layout_one::make_layout_one;
 pub use migration::migrate;
 pub use pass::{boot, no_fault_exactly};
 
-#[cfg(test)]
-mod moving_tests;
 #[cfg(test)]
 mod tests;

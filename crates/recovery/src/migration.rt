@@ -71,7 +71,7 @@ fn copy_plan<D: Disk>(
 }
 
 /// Puts an open slot of the first generation with this payload before a closed one, over zeros.
-pub fn put_slots(slots: &mut [u8], payload: &[u8])
+fn put_slots(slots: &mut [u8], payload: &[u8])
     requires zeros { slots.old ≡ replicate (length slots.old) 0 }
     requires size { length slots.old ≡ 2 * (9 + length payload.now) }
     ensures { slots.new ≡ new_slots payload.now }
@@ -83,28 +83,23 @@ pub fn put_slots(slots: &mut [u8], payload: &[u8])
 }
 
 /// Writes both slots of the state cell of a plan's type, which name bank 0 and this plan.
-pub fn write_state<D: Disk>(
-    disk: &mut D,
-    layout: Layout,
-    kind: PlanType,
-    head: PlanHead,
-) -> Result<(), BootFault>
+fn write_state<D: Disk>(disk: &mut D, kind: PlanType, head: PlanHead) -> Result<(), BootFault>
     requires room { STORE_BYTES ≤ (D.state disk.old).meter.size }
     requires count { head.count ≤ limit_in One kind }
-    ensures state { OnOk result (IsTrue (D.state disk.new).tells → HasNewState layout kind head (D.state disk.new).seen) }
-    ensures run { Run (place_of layout (State kind)) (size_of layout (State kind)) (λ _. Unit {0}) (D.state disk.old) (D.state disk.new) }
+    ensures state { OnOk result (IsTrue (D.state disk.new).tells → HasNewState kind head (D.state disk.new).seen) }
+    ensures run { Run (place_of Two (State kind)) (size_of Two (State kind)) (λ _. Unit {0}) (D.state disk.old) (D.state disk.new) }
     ensures of_disk { IfErr result IsOfDisk }
     ensures went { Went 1 0 (D.state disk.old).meter (D.state disk.new).meter result }
 {
     let mut slots = [0; 32];
     put_slots(&mut slots, &encode_state(0, head));
-    disk.write_at(state_at(layout, kind), &slots)?;
+    disk.write_at(state_at(Layout::Two, kind), &slots)?;
     Ok(())
 }
 
 /// Both slots of the mark cell: the first holds this mark, where there is one.
 fn mark_slots(mark: &Option<Mark>) -> [u8; 288]
-    ensures { AreMarkSlots Two (plain_marks mark.now) result }
+    ensures { AreMarkSlots (plain_marks mark.now) result }
 {
     match mark {
         Some(mark) => slots_of(mark),
@@ -114,7 +109,7 @@ fn mark_slots(mark: &Option<Mark>) -> [u8; 288]
 
 /// Both slots of the mark cell with this mark.
 fn slots_of(mark: &Mark) -> [u8; 288]
-    ensures { AreMarkSlots Two (Some (plain_mark mark.now)) result }
+    ensures { AreMarkSlots (Some (plain_mark mark.now)) result }
 {
     let mut slots = [0; 288];
     put_slots(&mut slots, &encode_mark(mark));
@@ -124,7 +119,7 @@ fn slots_of(mark: &Mark) -> [u8; 288]
 /// Writes both slots of the mark cell.
 fn write_mark<D: Disk>(disk: &mut D, mark: &Option<Mark>) -> Result<(), BootFault>
     requires room { STORE_BYTES ≤ (D.state disk.old).meter.size }
-    ensures mark { OnOk result (IsTrue (D.state disk.new).tells → HasNewMark Two (plain_marks mark.now) (D.state disk.new).seen) }
+    ensures mark { OnOk result (IsTrue (D.state disk.new).tells → HasNewMark (plain_marks mark.now) (D.state disk.new).seen) }
     ensures run { Run (place_of Two TheMark) (size_of Two TheMark) (λ _. Unit {0}) (D.state disk.old) (D.state disk.new) }
     ensures of_disk { IfErr result IsOfDisk }
     ensures went { Went 1 0 (D.state disk.old).meter (D.state disk.new).meter result }
@@ -162,9 +157,9 @@ fn write_states<D: Disk>(disk: &mut D, states: &States) -> Result<(), BootFault>
     ensures of_disk { IfErr result IsOfDisk }
     ensures went { Went 3 0 (D.state disk.old).meter (D.state disk.new).meter result }
 {
-    let _mission = write_state(disk, Layout::Two, PlanType::Mission, states.mission.head)?;
-    let _fence = write_state(disk, Layout::Two, PlanType::Fence, states.fence.head)?;
-    write_state(disk, Layout::Two, PlanType::Safe, states.safe.head)
+    let _mission = write_state(disk, PlanType::Mission, states.mission.head)?;
+    let _fence = write_state(disk, PlanType::Fence, states.fence.head)?;
+    write_state(disk, PlanType::Safe, states.safe.head)
 }
 
 /// Puts what was found in layout 1 where layout 2 has it, and makes it last. The compat cell stays as it is.

@@ -1,5 +1,4 @@
-//! A boot: one sync, and then one pass of reads that finds what the store stands for, or what is wrong with it.
-
+// A boot: one sync, and then one pass of reads that finds what the store stands for, or what is wrong with it.
 ghost use Rattle.dataman_layout.specs.declared.layout.Layout.TheVariants.{One, Two};
 ghost use Rattle.std.specs.Prelude.{false, ◌≡◌, ◌≤◌, ◌<◌, ◌+◌, ◌^◌, ℕ, [], List, None, IsTrue, IfOk, IfErr, IfSome, OnOk};
 ghost use Rattle.mission_model.specs.declared.limits.TheConstants.{STORE_BYTES};

@@ -1,5 +1,4 @@
-//! The items of the plans in force, read in order and checked as an upload would be.
-
+// The items of the plans in force, read in order and checked as an upload would be.
 ghost use Rattle.std.specs.Prelude.{◌≡◌, ◌≤◌, ◌<◌, ◌+◌, Some, IsTrue, IfOk, IfErr};
 ghost use Rattle.mission_model.specs.declared.limits.TheConstants.{STORE_BYTES};
 ghost use Rattle.mission_model.specs.declared.plan.PlanType.TheVariants.{Mission};

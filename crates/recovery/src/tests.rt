@@ -1,6 +1,5 @@
-//! What no clause says: the first row of a store that is made, booted and not made again, its bytes written out, one store for
-//! each fault, at which calls of the disk a new store and a boot stop, and the bytes of both layouts round a migration.
-
+// What no clause says: the first row of a store that is made, booted and not made again, its bytes written out, one store for
+// each fault, at which calls of the disk a new store and a boot stop, and the bytes of both layouts round a migration.
 ghost use Rattle.std.specs.Prelude.{◌≡◌, ◌≤◌, ◌+◌, length};
 ghost use Rattle.mission_model.specs.declared.limits.TheConstants.{STORE_BYTES};
 
@@ -329,7 +328,7 @@ fn a_store_of_layout_1_is_moved(rt: HostRuntime) -> Result<(), Fail> {
 }
 
 /// What a boot finds, and the disk again.
-pub fn boot_once<D: Disk>(disk: D) -> (Result<BootState, BootFault>, D)
+fn boot_once<D: Disk>(disk: D) -> (Result<BootState, BootFault>, D)
     requires room { STORE_BYTES ≤ (D.state disk).meter.size }
     ensures size { (D.state result.1).meter.size ≡ (D.state disk).meter.size }
     ensures can_cut { (D.state result.1).meter.can_cut ≡ (D.state disk).meter.can_cut }

@@ -8,7 +8,6 @@ pub mod Meaning
 pub mod Reading
 pub mod TextFaults
 pub mod Loops
-pub mod EndLines
 pub mod RowFacts
 pub mod SafeLines
 pub mod InLimits

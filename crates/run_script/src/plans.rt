@@ -1,6 +1,6 @@
 //! Plans in a script: a line `plan ..`, and the text up to the next line `end`.
 
-ghost use Rattle.std.specs.Prelude.{◌≡◌, ◌≤◌, ◌<◌, length, All, IfOk, IfErr, IfSome, MatchOption, MatchResult, None, Some, Ok, Err, position, map, true, false};
+ghost use Rattle.std.specs.Prelude.{◌≡◌, ◌≤◌, ◌<◌, length, All, IfOk, IfErr, IfSome, MatchOption, MatchResult, None, Some, Ok, Err, position, map};
 ghost use Rattle.std.specs.List.{list_all};
 ghost use Rattle.nav_text.specs.Spans.{text_of, IsInside};
 ghost use Rattle.run_script.specs.Lines.{word};
@@ -13,7 +13,7 @@ use crate::forms::plan_named;
 use crate::words::Line;
 use mission_model::limits::{MAX_NAME_BYTES, MAX_PLANS};
 use mission_model::{Items, Name, NamedPlan, PlanType};
-use nav_text::{MAX_TEXT_BYTES, Span, WordCursor, is_blank};
+use nav_text::{MAX_TEXT_BYTES, Span, WordCursor};
 use std::alloc::Global;
 use wpl_items::{WplFault, drop_home, read_wpl_lines};
 
@@ -49,27 +49,8 @@ fn new_name(plans: &[NamedPlan], name: &[u8]) -> Result<(), ScriptFault>
     Ok(())
 }
 
-/// Whether the first byte tells that a line does not end a plan: so it is with each row.
-fn begins_otherwise(line: &[u8]) -> bool
-    ensures { result ≡ true → is_end line.now ≡ false }
-{
-    match line {
-        [] => true,
-        [first, ..] => *first != b'e' && !is_blank(*first),
-    }
-}
-
 /// Whether a line ends a plan: its only word is `end`.
-#[inline(always)]
 pub(crate) fn is_end(text: &[u8], line: Span) -> bool
-    requires { IsInside text.now line }
-    ensures { result ≡ is_end (text_of text.now line) }
-{
-    !begins_otherwise(&text[line.from as usize..line.to as usize]) && is_end_word(text, line)
-}
-
-/// The same, by the line's words.
-fn is_end_word(text: &[u8], line: Span) -> bool
     requires { IsInside text.now line }
     ensures { result ≡ is_end (text_of text.now line) }
 {

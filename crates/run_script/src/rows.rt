@@ -60,12 +60,16 @@ fn is_of(line: &Line<'_>, row: &Row) -> bool
 fn find_row<'a>(rows: &'a [Row], line: &Line<'_>) -> Option<&'a Row>
     ensures { MatchOption result (find (is_of line.now) rows.now ≡ None) (λ row. find (is_of line.now) rows.now ≡ Some row.now) }
 {
-    for row in rows {
-        if is_of(line, row) {
-            return Some(row);
+    match rows {
+        [] => None,
+        [row, more @ ..] => {
+            if is_of(line, row) {
+                Some(row)
+            } else {
+                find_row(more, line)
+            }
         }
     }
-    None
 }
 
 fn any_agrees(rows: &[Row], line: &Line<'_>) -> bool
@@ -170,12 +174,12 @@ fn scaled_within(word: &[u8], scale: u8, least: i32, greatest: i32) -> Option<Va
 
 /// What the word at a place stands for. In front of most places the line has ended.
 #[inline(always)]
-fn read_place(slot: &Slot, place: u8, line: &Line<'_>) -> Result<Value, ScriptFault>
+fn read_place(slot: Slot, place: u8, line: &Line<'_>) -> Result<Value, ScriptFault>
     requires first { 1 ≤ place }
     requires last { place ≤ KEPT_WORDS }
-    ensures good { IfOk result (λ value. Reads slot.now (word place line.now) value) }
-    ensures only { (value : Value) → Reads slot.now (word place line.now) value → result ≡ Ok value }
-    ensures bad { IfErr result (λ fault. (fault ≡ ScriptFault.Number place) × IsBad slot.now (word place line.now)) }
+    ensures good { IfOk result (λ value. Reads slot (word place line.now) value) }
+    ensures only { (value : Value) → Reads slot (word place line.now) value → result ≡ Ok value }
+    ensures bad { IfErr result (λ fault. (fault ≡ ScriptFault.Number place) × IsBad slot (word place line.now)) }
 {
     match slot {
         Slot::End | Slot::Word(_) => Ok(Value::Word),
@@ -183,14 +187,14 @@ fn read_place(slot: &Slot, place: u8, line: &Line<'_>) -> Result<Value, ScriptFa
     }
 }
 
-fn read_word(slot: &Slot, place: u8, line: &Line<'_>) -> Result<Value, ScriptFault>
+fn read_word(slot: Slot, place: u8, line: &Line<'_>) -> Result<Value, ScriptFault>
     requires first { 1 ≤ place }
     requires last { place ≤ KEPT_WORDS }
-    ensures good { IfOk result (λ value. Reads slot.now (word place line.now) value) }
-    ensures only { (value : Value) → Reads slot.now (word place line.now) value → result ≡ Ok value }
-    ensures bad { IfErr result (λ fault. (fault ≡ ScriptFault.Number place) × IsBad slot.now (word place line.now)) }
+    ensures good { IfOk result (λ value. Reads slot (word place line.now) value) }
+    ensures only { (value : Value) → Reads slot (word place line.now) value → result ≡ Ok value }
+    ensures bad { IfErr result (λ fault. (fault ≡ ScriptFault.Number place) × IsBad slot (word place line.now)) }
 {
-    match read_slot(*slot, line.word(place as usize)) {
+    match read_slot(slot, line.word(place as usize)) {
         Some(value) => Ok(value),
         None => Err(ScriptFault::Number(place)),
     }
@@ -202,11 +206,11 @@ pub(crate) fn read_row(row: &Row, line: &Line<'_>) -> Result<Values, ScriptFault
     ensures only { (values : Values) → ReadsRow row.now line.now values → result ≡ Ok values }
     ensures bad { IfErr result (λ fault. IsNumberFault row.now line.now fault) }
 {
-    let second = read_place(&row.second, 2, line)?;
-    let third = read_place(&row.third, 3, line)?;
-    let fourth = read_place(&row.fourth, 4, line)?;
-    let fifth = read_place(&row.fifth, 5, line)?;
-    let sixth = read_place(&row.sixth, 6, line)?;
+    let second = read_place(row.second, 2, line)?;
+    let third = read_place(row.third, 3, line)?;
+    let fourth = read_place(row.fourth, 4, line)?;
+    let fifth = read_place(row.fifth, 5, line)?;
+    let sixth = read_place(row.sixth, 6, line)?;
     Ok(Values {
         second,
         third,

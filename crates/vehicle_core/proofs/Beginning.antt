@@ -1,5 +1,5 @@
 -- The core at the beginning of a boot: what is told of it, and that it is sound.
-use Rattle.std.proofs.Common.{◌≡◌, ◌≢◌, ℕ, zero, suc, ◌+◌, ◌<◌, ◌≤◌, Bool, true, false, List, [], ◌∷◌, ◌++◌, length, cond, Option, Some, None, map, refl, sym, subst, ap, ◌∙◌, arith, append-nil}
+use Rattle.std.proofs.Common.{◌≡◌, ◌≢◌, inl, inr, ℕ, zero, suc, ◌+◌, ◌<◌, ◌≤◌, Bool, true, false, List, [], ◌∷◌, ◌++◌, length, cond, Option, Some, None, map, refl, sym, subst, ap, ◌∙◌, arith, append-nil}
 use Rattle.std.specs.Prelude.{slice_get, slice_index_or}
 use Rattle.std.specs.List.{All}
 use Rattle.std.proofs.lemmas.List.{length-replicate}
@@ -28,13 +28,10 @@ use Rattle.request_board.specs.Watching.{Awaited, HeadsFit}
 use Rattle.transfer_lock.specs.TransferState.{TransferState, last_id}
 use Rattle.transfer_lock.specs.TransferState as transfer
 use Rattle.upload_session.specs.declared.session.Stage.TheVariants as stage
-use Rattle.upload_session.specs.UploadState.{Free}
 use Rattle.upload_session.specs.SessionState.{AwaitsOnly}
 use Rattle.navigator.specs.NavState.{NavState, NavTaken, with_taken, HasShown}
 use Rattle.navigator.specs.EventLaw.{nav_at_boot}
 use Rattle.navigator.specs.Outstanding.{asked_at_boot}
-use Rattle.vehicle_core.specs.Uploading.{Uploads}
-use Rattle.vehicle_core.specs.UploadingKept.{not_begun}
 use Rattle.vehicle_core.specs.declared.shared.Shared.{Shared}
 use Rattle.vehicle_core.specs.declared.local.Local.{Local}
 use Rattle.vehicle_core.specs.ScheduleState.{ScheduleState, fresh, same_actor, inputs_of}
@@ -45,8 +42,6 @@ use Rattle.vehicle_core.specs.LinkActs.{CanHearAll}
 use Rattle.vehicle_core.specs.Steps.{number_of}
 use Rattle.vehicle_core.specs.UploadFits.{BoardFits}
 use Rattle.vehicle_core.specs.NavKept.{may_tick}
-use Rattle.vehicle_core.specs.Windows.{WindowsFit}
-use Rattle.vehicle_core.specs.WindowsKept.{windows_at_boot}
 use Rattle.vehicle_core.specs.Fits.{SharedFits, NavAdopts, LocalFits}
 use Rattle.vehicle_core.specs.Crew.{worker_local, link_local, nav_local, watch_local, watch_crew, link_crew, crew_of}
 use Rattle.vehicle_core.specs.CoreState.{AreTold, Tells, CoreFits}
@@ -246,8 +241,8 @@ module _ {W : Type 0} (waits : W → Awaited) (boot : BootScript) (state : BootS
   none_held : (n : ℕ) → s.transfer.holder ≢ Some n
   none_held n is = let e : None ≡ Some n = sym no_holder ∙ is in cc
 
-  link_fits : (number : ℕ) (schedule : ScheduleState) → number < boot.links → schedule.begun ≡ false → All LinkInput schedule.inputs → Fitting (suc number) (link_local number schedule)
-  link_fits number schedule less new inputs = (
+  link_fits : (number : ℕ) (schedule : ScheduleState) → number < boot.links → All LinkInput schedule.inputs → Fitting (suc number) (link_local number schedule)
+  link_fits number schedule less inputs = (
     omega arith,
     record {
       shared = fits;
@@ -258,21 +253,20 @@ module _ {W : Type 0} (waits : W → Awaited) (boot : BootScript) (state : BootS
         replies = λ on. no_reply (client.Link number);
         inputs = inputs;
       };
-      knows = record { heard = []; hears = tt; draft = tt; uploads = subst (λ (begun : Bool). Uploads schedule.inputs begun schedule.requested Free) (sym new) (not_begun schedule.inputs schedule.requested Free) };
+      knows = record { heard = []; hears = tt; draft = tt };
     },
   )
 
   nav_fits : (navigator : NavState) (schedule : ScheduleState) → with_taken navigator [] ≡ nav_at_boot boot.params boot.home state → HasShown navigator [] → All NavInput schedule.inputs → Fitting (suc boot.links) (nav_local boot.links navigator schedule)
   nav_fits navigator schedule is shown inputs =
       let heads : s.board.published ≡ state.heads = ap (λ (b : BoardState). b.published) board_is in
-      let adopts : NavAdopts (with_taken navigator []) s.board = subst (λ (v : NavTaken). NavAdopts v s.board) (sym is) (adopts_begun boot.params boot.home state s.board heads) in
-      let windows : WindowsFit (with_taken navigator []) s.board.published = subst (λ (x : NavTaken × List PlanHead). WindowsFit x.0 x.1) (λ k. (sym is k, sym heads k)) (windows_at_boot boot state) in (
+      let adopts : NavAdopts (with_taken navigator []) s.board = subst (λ (v : NavTaken). NavAdopts v s.board) (sym is) (adopts_begun boot.params boot.home state s.board heads) in (
         omega arith,
         record {
           shared = fits;
           number = omega (arith, links_are);
           role = record { tick = may_tick navigator [] s.transfer s.board fits.board adopts; replies = λ on. no_reply client.Nav; inputs = inputs };
-          knows = record { items = []; shown = shown; adopts = adopts; windows = windows };
+          knows = record { items = []; shown = shown; adopts = adopts };
         },
       )
 
@@ -322,7 +316,7 @@ module _ {W : Type 0} (waits : W → Awaited) (boot : BootScript) (state : BootS
       (nav_fits navigator schedule is shown inputs, subst (λ (k : ℕ). AllFrom Fitting k (watch_crew boot.links 0 ss watchers)) (omega arith) watches)
   links_fit number (suc count) navigator (schedule ∷ ss) watchers sum many is shown ready =
       let own : schedule ≡ fresh (inputs_of (actor.Link number) boot.inputs) = ready.links 0 (omega arith) ∙ ap (λ (n : ℕ). fresh (inputs_of (actor.Link n) boot.inputs)) (omega arith) in (
-        link_fits number schedule (omega (arith, sum)) (ap (λ (x : ScheduleState). x.begun) own) (own_inputs LinkInput (actor.Link number) schedule (λ input fit. fit.1) own),
+        link_fits number schedule (omega (arith, sum)) (own_inputs LinkInput (actor.Link number) schedule (λ input fit. fit.1) own),
         links_fit (suc number) count navigator ss watchers (omega (arith, sum)) many is shown (ready_next number count (length watchers) boot.inputs schedule ss ready),
       )
 

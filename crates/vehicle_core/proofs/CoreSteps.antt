@@ -1,5 +1,5 @@
 -- A step of the core: one local's step, with the list of locals set at its place.
-use Rattle.std.proofs.Common.{◌≡◌, ◌≢◌, ◌⊎◌, inl, inr, ℕ, zero, suc, ◌<◌, ◌≤◌, ◌&&◌, ◌||◌, Bool, true, false, List, [], ◌∷◌, length, Option, Some, refl, sym, subst, ap, ◌∙◌, arith, length-set}
+use Rattle.std.proofs.Common.{◌≡◌, ◌≢◌, ◌⊎◌, inl, inr, ℕ, zero, suc, ◌<◌, ◌≤◌, ◌&&◌, ◌||◌, Bool, true, false, List, [], ◌∷◌, length, Option, Some, None, refl, sym, subst, ap, ◌∙◌, arith, length-set}
 use Rattle.std.specs.List.{All}
 use Rattle.std.proofs.lemmas.List.Elements.{All-head, All-tail}
 use Rattle.std.specs.Prelude.{slice_get, slice_index_or, slice_set}
@@ -7,6 +7,7 @@ use Rattle.mission_model.specs.declared.flight_line.Actor.{Actor}
 use Rattle.mission_model.specs.declared.flight_line.Actor.TheVariants as actor
 use Rattle.mission_model.specs.declared.flight_line.Line.{Line}
 use Rattle.mission_model.specs.declared.plan.Item.{Item}
+use Rattle.mission_model.specs.declared.request.Client.{Client}
 use Rattle.mission_model.specs.declared.request.Request.{Request}
 use Rattle.mission_model.specs.declared.request.Reply.{Reply}
 use Rattle.request_board.specs.Watching.{Awaited}
@@ -18,11 +19,12 @@ use Rattle.vehicle_core.specs.declared.local.Local.{Local}
 use Rattle.vehicle_core.specs.declared.local.Role.{Role}
 use Rattle.vehicle_core.specs.declared.local.Role.TheVariants as role
 use Rattle.vehicle_core.specs.ScheduleState.{same_actor}
-use Rattle.vehicle_core.specs.LocalState.{taken_of, finished_of, role_told}
+use Rattle.vehicle_core.specs.LocalState.{request_of, taken_of, finished_of, role_told}
 use Rattle.vehicle_core.specs.Told.{SharedTold, ActorTold, BootTold, name_of}
 use Rattle.vehicle_core.specs.Ready.{has_ready, is_ready}
 use Rattle.vehicle_core.specs.Order.{LineBy}
 use Rattle.vehicle_core.specs.SharedState.{shared_told, Counted}
+use Rattle.vehicle_core.specs.WorkerActs.{ReplySuits}
 use Rattle.vehicle_core.specs.Steps.{number_of, Steps}
 use Rattle.vehicle_core.specs.WatchKept.{AnswersWell}
 use Rattle.vehicle_core.specs.Fits.{number_among, role_name, LocalFits, LocalSuits}

@@ -1,18 +1,6 @@
 -- A reply that is given is the one that the line says, and no step loses one.
-use Rattle.std.proofs.Common.{◌≡◌, inl, inr, ℕ, length, slice_get, arith, List, [], ◌∷◌, Bool, true, false, Option, Some, None, is_some, refl, sym, subst, ap, ◌∙◌, true≢false}
+use Rattle.std.proofs.Common.{◌≡◌, ◌⊎◌, inl, inr, ℕ, ◌+◌, length, slice_get, arith, List, [], ◌∷◌, Bool, true, false, Option, Some, None, is_some, refl, sym, ap, ◌∙◌, true≢false}
 use Rattle.std.specs.Prelude.{if◌then◌else◌}
-use Rattle.std.specs.List.{All}
-use Rattle.std.proofs.lemmas.List.Elements.{All-head}
-use Rattle.mission_model.specs.declared.message.Message.{Message}
-use Rattle.mission_model.specs.declared.message.Message.TheVariants as message
-use Rattle.mission_model.specs.declared.plan.Item.{Item}
-use Rattle.mission_model.specs.declared.plan.PlanType.{PlanType}
-use Rattle.mission_model.specs.declared.plan.PlanType.TheVariants.{Mission, Fence, Safe}
-use Rattle.mission_model.specs.declared.schedule.InputLine.{InputLine}
-use Rattle.mission_model.specs.declared.schedule.InputLine.TheVariants as input
-use Rattle.mission_model.specs.BootScripts.{LinkInput, MessageInLimits, NamesTypes}
-use Rattle.mission_model.specs.PlanTypes.{number_of}
-use Rattle.mission_model.specs.Shown.{said_of}
 use Rattle.mission_model.specs.declared.request.Client.{Client}
 use Rattle.mission_model.specs.declared.request.Request.{Request}
 use Rattle.mission_model.specs.declared.request.Reply.{Reply}
@@ -28,13 +16,13 @@ use Rattle.vehicle_core.specs.declared.local.Role.{Role}
 use Rattle.vehicle_core.specs.declared.local.Role.TheVariants as role
 use Rattle.vehicle_core.specs.SharedState.{shared_told, arrived_after}
 use Rattle.vehicle_core.specs.Told.{SharedTold, LinkTold, NavTold, WatchTold}
-use Rattle.vehicle_core.specs.Ready.{Replies, Goes, Rests, has_first, is_turn}
-use Rattle.vehicle_core.specs.ActorStep.{LinkStep, NavStep, WatcherStep, item_message, message_of}
-use Rattle.vehicle_core.specs.LineTells.{reply_given, SaysGiven, NamesKnown, ShowsKnown, IfMade}
+use Rattle.vehicle_core.specs.Ready.{Turn, Replies, Goes, Rests, has_first, is_turn}
+use Rattle.vehicle_core.specs.ActorStep.{LinkStep, NavStep, WatcherStep}
+use Rattle.vehicle_core.specs.LineTells.{reply_given, SaysGiven}
 use Rattle.vehicle_core.specs.LinkActs.{link_told}
 use Rattle.vehicle_core.specs.NavActs.{nav_told}
 use Rattle.vehicle_core.specs.WatchActs.{watch_told}
-use Rattle.vehicle_core.specs.WorkerActs.{WorkerLine, WorkerIdle, ReplySuits}
+use Rattle.vehicle_core.specs.WorkerActs.{WorkerActs, WorkerLine, WorkerIdle, ReplySuits}
 use Rattle.vehicle_core.specs.Steps.{RoleActs, RoleFits, RoleSuits, Steps, WorkerFits}
 use Rattle.mission_model.specs.declared.flight_line.Actor.{Actor}
 use Rattle.mission_model.specs.declared.flight_line.Actor.TheVariants as actor
@@ -55,55 +43,6 @@ worker_says : (s : Shared) (given : Option Reply) (made : Line) (s' : Shared) �
 worker_says s None (line.Took who shown) s' h = refl
 worker_says s (Some given) (line.Served who reply) s' h = ap (λ (r : Reply). Some r) h.0
 worker_says s given made s' h = elim h [ ]
-
--- The message that a line shows names plan types that there are.
-
-kind_known : (kind : PlanType) → NamesTypes (number_of kind)
-kind_known Mission = inl (omega arith)
-kind_known Fence = inl (omega arith)
-kind_known Safe = inl (omega arith)
-
-message_known : (sent : Message) → MessageInLimits sent → NamesKnown (said_of sent)
-message_known (message.Count kind count) known = known
-message_known (message.Item seq item) known = tt
-message_known (message.ClearAll kind) known = known
-message_known (message.SetCurrent seq) known = tt
-message_known message.Cancel known = tt
-message_known message.Timeout known = tt
-
-item_known : (seq : ℕ) (found : Option Item) (sent : Message) → item_message seq found ≡ Some sent → NamesKnown (said_of sent)
-item_known seq None sent is = absurd cc
-item_known seq (Some item) sent is =
-    let same : message.Item seq item ≡ sent = cc in
-    subst (λ (m : Message). NamesKnown (said_of m)) same tt
-
-sends_known : (inputs : List InputLine) (begun : Bool) (requested : ℕ) (sent : Message) → All LinkInput inputs → message_of inputs begun requested ≡ Some sent → NamesKnown (said_of sent)
-sends_known [] begun requested sent all sends = absurd cc
-sends_known (input.Message own ∷ rest) begun requested sent all sends =
-    let same : own ≡ sent = cc in
-    subst (λ (m : Message). NamesKnown (said_of m)) same (message_known own (All-head LinkInput (input.Message own) rest all))
-sends_known (input.Upload kind items ∷ rest) false requested sent all sends =
-    let same : message.Count (number_of kind) (length items) ≡ sent = cc in
-    subst (λ (m : Message). NamesKnown (said_of m)) same (kind_known kind)
-sends_known (input.Upload kind items ∷ rest) true requested sent all sends = item_known requested (slice_get items requested) sent sends
-sends_known (input.Wait ∷ rest) begun requested sent all sends = absurd cc
-sends_known (input.Meet place count ∷ rest) begun requested sent all sends = absurd cc
-sends_known (input.Vehicle event ∷ rest) begun requested sent all sends = absurd cc
-sends_known (input.Watch given ∷ rest) begun requested sent all sends = absurd cc
-
-link_shows : (t : SharedTold) (l : LinkTold) (made : Line) (t' : SharedTold) (l' : LinkTold) → All LinkInput l.schedule.inputs → LinkStep t l made t' l' → ShowsKnown made
-link_shows t l (line.Sent number said given) t' l' all h =
-    subst NamesKnown (sym h.2.shown) (sends_known l.schedule.inputs l.schedule.begun l.schedule.requested h.2.message all h.2.sends)
-link_shows t l other t' l' all h = tt
-
-nav_shows : (t : SharedTold) (n : NavTold) (made : Line) (t' : SharedTold) (n' : NavTold) → NavStep t n made t' n' → ShowsKnown made
-nav_shows t n (line.Sent number said given) t' n' h = elim h.1.step [ ]
-nav_shows t n other t' n' h = tt
-
-worker_shows : (s : Shared) (given : Option Reply) (made : Line) (s' : Shared) → WorkerLine s [] given made s' → ShowsKnown made
-worker_shows s None (line.Took who shown) s' h = tt
-worker_shows s (Some given) (line.Served who reply) s' h = tt
-worker_shows s given made s' h = elim h [ ]
 
 rests_never : (waits : Bool) → (if true then Replies else (if waits then Goes else Rests)) ≡ Rests → ⊥
 rests_never waits h = true≢false (ap is_turn h)
@@ -136,26 +75,6 @@ module _ {W : Type 0} where
   role_says rules waits s (role.Watch w) given (Made made) s' (role.Watch w') shared fits knows suits h = watch_says rules (shared_told s shared.arrived) (watch_told w) made (shared_told s' shared.arrived) (watch_told w') (h.led shared.arrived) ∙ sym suits
   role_says rules waits s (role.Watch w) given Idle s' (role.Watch w') shared fits knows suits h = suits
   role_says rules waits s old given out s' new shared fits knows suits h = elim h [ ]
-
-  watch_shows : (rules : WatchRules W) (t : SharedTold) (w : WatchTold W) (made : Line) (t' : SharedTold) (w' : WatchTold W) → WatcherStep rules t w made t' w' → ShowsKnown made
-  watch_shows rules t w (line.Sent number said given) t' w' h = elim h [ ]
-  watch_shows rules t w other t' w' h = tt
-
-  role_shows : (rules : WatchRules W) (waits : W → Awaited) (s : Shared) (r : Role W) (given : Option Reply) (out : StepOut Line) (s' : Shared) (r' : Role W) → SharedFits s → RoleFits waits s r → RoleKnows s r → RoleActs rules s r given out s' r' → IfMade ShowsKnown out
-  role_shows rules waits s (role.Worker taken) given (Made made) s' (role.Worker taken') shared fits knows h = worker_shows s given made s' (h.line [])
-  role_shows rules waits s (role.Link l) given (Made made) s' (role.Link l') shared fits knows h =
-      let led = h.led shared.arrived knows.heard shared.counted knows.hears in
-      link_shows (shared_told s shared.arrived) (link_told l knows.heard) made (shared_told s' (arrived_after made shared.arrived)) (link_told l' led.heard') fits.inputs led.step
-  role_shows rules waits s (role.Nav n) given (Made made) s' (role.Nav n') shared fits knows h =
-      let led = h.led shared.arrived knows.items shared.counted knows.shown in
-      nav_shows (shared_told s shared.arrived) (nav_told n knows.items) made (shared_told s' (arrived_after made shared.arrived)) (nav_told n' led.items') led.step
-  role_shows rules waits s (role.Watch w) given (Made made) s' (role.Watch w') shared fits knows h = watch_shows rules (shared_told s shared.arrived) (watch_told w) made (shared_told s' shared.arrived) (watch_told w') (h.led shared.arrived)
-  role_shows rules waits s old given Idle s' new shared fits knows h = tt
-  role_shows rules waits s old given (Made made) s' new shared fits knows h = elim h [ ]
-
-  -- the line of a step shows a message that names plan types that there are
-  pub step_shows : (rules : WatchRules W) (waits : W → Awaited) (s : Shared) (l : Local W) (given : Option Reply) (out : StepOut Line) (s' : Shared) (l' : Local W) → LocalFits waits s l → Steps rules s l given out s' l' → IfMade ShowsKnown out
-  step_shows rules waits s l given out s' l' fits h = role_shows rules waits s l.role given out s' l'.role fits.shared fits.role fits.knows h.acts
 
   -- a step of a local says the reply that was given
   pub step_says : (rules : WatchRules W) (waits : W → Awaited) (s : Shared) (l : Local W) (given : Option Reply) (out : StepOut Line) (s' : Shared) (l' : Local W) → LocalFits waits s l → LocalSuits l given → Steps rules s l given out s' l' → SaysGiven given out

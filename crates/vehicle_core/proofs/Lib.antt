@@ -4,9 +4,9 @@ mod NavLines
 mod WatchLines
 mod Sorting
 mod Runs
-mod Rounds
 mod Names
 mod PowerEnds
+mod TurnRuns
 mod ReadsOfLinks
 mod CoreSteps
 mod Seating
@@ -15,6 +15,3 @@ mod ReadsOfStep
 mod ReadsOfTurns
 mod Histories
 mod Given
-mod Waiting
-mod Resting
-mod OneStep

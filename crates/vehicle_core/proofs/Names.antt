@@ -1,18 +1,20 @@
 -- Each line is of the actor that it names; the actors keep their names and their places; the power goes with a reply alone.
-use Rattle.std.proofs.Common.{◌≡◌, ℕ, zero, suc, true, List, [], ◌∷◌, Some, slice_get, slice_set, refl, sym, ap, ◌∙◌}
+use Rattle.std.proofs.Common.{◌≡◌, ◌⊎◌, inl, inr, ℕ, zero, suc, Bool, true, false, List, [], ◌∷◌, ◌++◌, Option, Some, None, slice_get, slice_set, refl, sym, subst, ap, ◌∙◌, true≢false}
 use Rattle.mission_model.specs.declared.flight_line.Actor.{Actor}
 use Rattle.mission_model.specs.declared.flight_line.Actor.TheVariants as actor
 use Rattle.mission_model.specs.declared.flight_line.Line.{Line}
 use Rattle.mission_model.specs.declared.flight_line.Line.TheVariants as line
 use Rattle.mission_model.specs.declared.request.Client.{Client}
 use Rattle.mission_model.specs.declared.request.Client.TheVariants as client
+use Rattle.mission_model.specs.declared.request.Reply.{Reply}
+use Rattle.mission_model.specs.declared.request.Reply.TheVariants as reply
 use Rattle.request_board.specs.WatchLaw.{WatchRules}
 use Rattle.vehicle_core.specs.ScheduleState.{ScheduleState}
 use Rattle.vehicle_core.specs.Told.{SharedTold, LinkTold, NavTold, WatchTold, ActorTold, BootTold, Worker, Link, Nav, Watch, name_of, names_of}
-use Rattle.vehicle_core.specs.ActorStep.{ActorStep, ClientStep, LinkStep, NavStep, WatcherStep}
+use Rattle.vehicle_core.specs.ActorStep.{ActorStep, ClientStep, LinkStep, NavStep, WatcherStep, power_after}
 use Rattle.vehicle_core.specs.CoreRun.{LineStep, Leads}
 use Rattle.vehicle_core.specs.LineTells.{actor_of, maker, power_by}
-use Rattle.vehicle_core.specs.Records.{link_power, nav_power, watch_power, ready_on}
+use Rattle.vehicle_core.specs.Records.{client_power, link_power, nav_power, watch_power, ready_on}
 
 -- a meeting or a wait is made by its client
 client_made : (who : Client) (t : SharedTold) (s : ScheduleState) (made : Line) (t' : SharedTold) (s' : ScheduleState) → ClientStep who t s made t' s' → maker made ≡ Some (actor_of who)

@@ -8,7 +8,7 @@ use Rattle.mission_model.specs.declared.request.Reply.TheVariants as reply
 use Rattle.mission_model.specs.declared.schedule.BootScript.{BootScript}
 use Rattle.request_board.specs.WatchLaw.{WatchRules}
 use Rattle.vehicle_core.specs.Told.{BootTold, begun}
-use Rattle.vehicle_core.specs.CoreRun.{Leads, BootCut, BootUp, BootEnded, Ended, Part}
+use Rattle.vehicle_core.specs.CoreRun.{LineStep, Leads, BootCut, BootUp, BootEnded, Ended, Part}
 use Rattle.vehicle_core.specs.LineTells.{power_by}
 use Rattle.vehicle_core.proofs.Runs.{cut_twice, both_empty, leads_cut, ended_last}
 use Rattle.vehicle_core.proofs.Names.{line_on}

@@ -1,13 +1,18 @@
--- Each line asks reads of published plans alone: the reads of watchers and of the Navigator.
-use Rattle.std.proofs.Common.{◌≡◌, inl, inr, ℕ, suc, zero, ◌<◌, true, List, [], ◌∷◌, ◌++◌, Option, Some, None, slice_get, refl, sym, subst, ap, ◌∙◌, append_assoc, append-nil}
+-- Each line asks reads of published plans alone: the reads of watchers and of the Navigator, and what each line leaves of them.
+use Rattle.std.proofs.Common.{◌≡◌, ◌≢◌, ◌⊎◌, inl, inr, ℕ, suc, zero, ◌<◌, ◌≤◌, ◌==◌, Bool, true, false, List, [], ◌∷◌, ◌++◌, drop, length, Option, Some, None, slice_get, slice_set, refl, sym, subst, ap, ◌∙◌, arith, append_assoc, append-nil, true≢false}
+use Rattle.std.specs.Prelude.{if◌then◌else◌}
 use Rattle.std.specs.List.{All}
+use Rattle.std.proofs.lemmas.Bool.Decides.{nat_tests}
 use Rattle.std.proofs.lemmas.List.Elements.{All-nil, All-cons, All-head, All-tail, All-append}
 use Rattle.mission_model.specs.declared.counts.Mark.{Mark}
 use Rattle.mission_model.specs.declared.plan.PlanHead.{PlanHead}
 use Rattle.mission_model.specs.declared.plan.PlanType.{PlanType}
+use Rattle.mission_model.specs.declared.plan.PlanType.TheVariants.{Mission, Fence, Safe}
+use Rattle.mission_model.specs.declared.flight_line.Actor.TheVariants as actor
 use Rattle.mission_model.specs.declared.flight_line.Line.{Line}
 use Rattle.mission_model.specs.declared.flight_line.Line.TheVariants as line
 use Rattle.mission_model.specs.declared.request.Asked.{Asked}
+use Rattle.mission_model.specs.declared.request.Asked.TheVariants as about
 use Rattle.mission_model.specs.declared.request.Client.{Client}
 use Rattle.mission_model.specs.declared.request.Client.TheVariants as client
 use Rattle.mission_model.specs.declared.request.Request.{Request}
@@ -26,41 +31,117 @@ use Rattle.mission_model.specs.Shown.{asked_of}
 use Rattle.request_board.specs.BoardState.{BoardState, HasClient, posted, open_asks}
 use Rattle.request_board.specs.BoardCalls.{heard, answered, taken}
 use Rattle.request_board.specs.Frames.{heard_own, with_waiting}
-use Rattle.request_board.specs.Watching.{Awaited, HeadsFit, IsPublished}
+use Rattle.request_board.specs.Watching.{Awaited, Answers, HeadsFit, IsPublished, IsTold}
 use Rattle.request_board.specs.WatchLaw.{WatchRules, reads_of}
-use Rattle.client_cache.specs.CacheState.{id_of, count_of}
+use Rattle.client_cache.specs.CacheState.{CacheState, has_id, id_of, count_of}
 use Rattle.client_cache.specs.Wants.{reads}
-use Rattle.navigator.specs.Asking.{EventAsks, mark_requests}
-use Rattle.navigator.specs.EventLaw.{EventLaw}
-use Rattle.navigator.specs.NavState.{NavTaken, cache_of}
-use Rattle.navigator.specs.NextEvent.{event_heads, event_asks}
+use Rattle.navigator.specs.Asking.{OwnWindows, EventAsks, head_met, mark_requests}
+use Rattle.navigator.specs.Caches.{SamePlan-got}
+use Rattle.navigator.specs.EventLaw.{EventLaw, nav_at_boot}
+use Rattle.navigator.specs.NavCalls.{reply_taken, drop_taken}
+use Rattle.navigator.specs.NavState.{NavTaken, FlightState, cache_of}
+use Rattle.navigator.specs.NextEvent.{event_heads, event_windows, event_asks}
+use Rattle.navigator.specs.Standing.{mark_answered}
+use Rattle.navigator.specs.Meeting.{is_done}
 use Rattle.vehicle_core.specs.declared.local.Local.{Local}
 use Rattle.vehicle_core.specs.declared.local.Role.{Role}
 use Rattle.vehicle_core.specs.declared.local.Role.TheVariants as role
 use Rattle.vehicle_core.specs.declared.shared.Shared.{Shared}
-use Rattle.vehicle_core.specs.Told.{SharedTold, NavTold, WatchTold, ActorTold, BootTold, Worker, Link, Nav, Watch, links_begun, nav_begun, watches_begun, begun}
+use Rattle.vehicle_core.specs.Told.{SharedTold, LinkTold, NavTold, WatchTold, ActorTold, BootTold, Worker, Link, Nav, Watch, links_begun, nav_begun, watches_begun, begun}
 use Rattle.vehicle_core.specs.SharedState.{shared_told}
-use Rattle.vehicle_core.specs.ActorStep.{ActorStep, NavStep, WatcherStep, all_asked}
+use Rattle.vehicle_core.specs.ActorStep.{ActorStep, NavStep, WatcherStep, all_asked, with_board}
 use Rattle.vehicle_core.specs.CoreRun.{LineStep}
 use Rattle.vehicle_core.specs.LinkActs.{CanHearAll}
 use Rattle.vehicle_core.specs.LinkKept.{client_stays}
 use Rattle.vehicle_core.specs.LocalState.{role_told}
 use Rattle.vehicle_core.specs.NavActs.{nav_told}
 use Rattle.vehicle_core.specs.Records.{ready_on}
-use Rattle.turn_cell.specs.Legal.{EachFits}
-use Rattle.vehicle_core.specs.Fits.{LocalFits, RoleKnows}
-use Rattle.vehicle_core.specs.Steps.{RoleFits, number_of}
+use Rattle.vehicle_core.specs.Steps.{RoleFits}
 use Rattle.mission_model.specs.declared.plan.Item.{Item}
 use Rattle.vehicle_core.specs.WatchActs.{WatchAsks}
 use Rattle.vehicle_core.specs.WatchKept.{AnswersWell, told_one}
 use Rattle.vehicle_core.specs.WorkerKept.{served_rises}
 use Rattle.vehicle_core.specs.Leaves.{HeadRises}
 use Rattle.vehicle_core.specs.UploadFits.{BoardFits}
-use Rattle.vehicle_core.specs.CoreState.{Tells, IsTold as IsToldOf, AreTold}
-use Rattle.vehicle_core.specs.Windows.{WindowsFit}
-use Rattle.vehicle_core.specs.WindowsKept.{adopts, windows_at_boot, windows_taken}
-use Rattle.vehicle_core.specs.ReadsAsked.{IsOfPublished, AsksPublished, NavsFit}
+use Rattle.vehicle_core.specs.CoreState.{CoreState, CoreFits, Tells, IsTold as IsToldOf, AreTold}
+use Rattle.vehicle_core.specs.ReadsAsked.{IsOfPublished, AsksPublished, WindowsFit, NavsFit}
+use Rattle.vehicle_core.proofs.CoreSteps.{set_at}
+use Rattle.vehicle_core.proofs.Names.{step_named}
+use Rattle.vehicle_core.proofs.PowerEnds.{told_true}
 use Rattle.vehicle_core.proofs.ReadsOfLinks.{asks_nothing, asks_more, heard_waits, link_asks}
+
+-- Windows.
+
+is_of : (head : Option PlanHead) (id : ℕ) → has_id head id ≡ true → id_of head ≡ id
+is_of None id is = absurd cc
+is_of (Some head) id is = grind (arith, nat_tests, is)
+
+pub windows_rise : (v : NavTaken) (old new : List PlanHead) → ((kind : PlanType) → HeadRises (head_of old kind) (head_of new kind)) → WindowsFit v old → WindowsFit v new
+windows_rise v old new rises fits = record {
+  own = fits.own;
+  earlier = λ kind. elim (rises kind) [ inl same ↦ omega (arith, fits.earlier kind, ap (λ (h : PlanHead). h.id) same) | inr later ↦ omega (arith, fits.earlier kind, later) ];
+  same = λ kind is. elim (rises kind) [
+    | inl same ↦ fits.same kind (ap (λ (h : PlanHead). has_id (cache_of kind v).head h.id) (sym same) ∙ is) ∙ ap (λ (h : PlanHead). Some h) (sym same)
+    | inr later ↦ absurd (omega (arith, fits.earlier kind, later, is_of (cache_of kind v).head (head_of new kind).id is))
+  ];
+}
+
+-- windows on the same plans
+windows_same : (v v' : NavTaken) (heads : List PlanHead) → ((kind : PlanType) → (cache_of kind v').head ≡ (cache_of kind v).head) → OwnWindows v' → WindowsFit v heads → WindowsFit v' heads
+windows_same v v' heads same own fits = record {
+  own = own;
+  earlier = λ kind. subst (λ (h : Option PlanHead). id_of h ≤ (head_of heads kind).id) (sym (same kind)) (fits.earlier kind);
+  same = λ kind. subst (λ (h : Option PlanHead). has_id h (head_of heads kind).id ≡ true → h ≡ Some (head_of heads kind)) (sym (same kind)) (fits.same kind);
+}
+
+-- so do the same windows
+windows_like : (v v' : NavTaken) (heads : List PlanHead) → ((kind : PlanType) → cache_of kind v' ≡ cache_of kind v) → WindowsFit v heads → WindowsFit v' heads
+windows_like v v' heads same fits =
+    windows_same v v' heads (λ kind. ap (λ (c : CacheState). c.head) (same kind))
+    (record { client = λ kind. ap (λ (c : CacheState). c.client) (same kind) ∙ fits.own.client kind; kind = λ kind. ap (λ (c : CacheState). c.kind) (same kind) ∙ fits.own.kind kind }) fits
+
+windows_if : (b : Bool) (v w : NavTaken) (heads : List PlanHead) → WindowsFit v heads → WindowsFit w heads → WindowsFit (if b then v else w) heads
+windows_if true v w heads h k = h
+windows_if false v w heads h k = k
+
+flight_cache : (v : NavTaken) (f : FlightState) (kind : PlanType) → cache_of kind (record v { flight = f }) ≡ cache_of kind v
+flight_cache v f Mission = refl
+flight_cache v f Fence = refl
+flight_cache v f Safe = refl
+
+-- an event adopts what is published
+adopts : (v : NavTaken) (heads : List PlanHead) (kind : PlanType) → WindowsFit v heads → head_met (cache_of kind v).head (head_of heads kind) ≡ Some (head_of heads kind)
+adopts v heads kind fits = elim (told_true (has_id (cache_of kind v).head (head_of heads kind).id)) [
+  | inl is ↦ ap (λ b. if b then (cache_of kind v).head else Some (head_of heads kind)) is ∙ fits.same kind is
+  | inr apart ↦ ap (λ b. if b then (cache_of kind v).head else Some (head_of heads kind)) apart
+]
+
+windows_new : (v : NavTaken) (heads : List PlanHead) → OwnWindows v → ((kind : PlanType) → (cache_of kind v).head ≡ Some (head_of heads kind)) → WindowsFit v heads
+windows_new v heads own is = record {
+  own = own;
+  earlier = λ kind. subst (λ (h : Option PlanHead). id_of h ≤ (head_of heads kind).id) (sym (is kind)) (omega arith);
+  same = λ kind given. is kind;
+}
+
+pub windows_at_boot : (boot : BootScript) (state : BootState) → WindowsFit (nav_at_boot boot.params boot.home state) state.heads
+windows_at_boot boot state = windows_new (nav_at_boot boot.params boot.home state) state.heads
+    (record { client = λ kind. own_client boot state kind; kind = λ kind. own_kind boot state kind })
+    (λ kind. own_head boot state kind)
+  where
+    own_client : (boot : BootScript) (state : BootState) (kind : PlanType) → (cache_of kind (nav_at_boot boot.params boot.home state)).client ≡ client.Nav
+    own_client boot state Mission = refl
+    own_client boot state Fence = refl
+    own_client boot state Safe = refl
+
+    own_kind : (boot : BootScript) (state : BootState) (kind : PlanType) → (cache_of kind (nav_at_boot boot.params boot.home state)).kind ≡ kind
+    own_kind boot state Mission = refl
+    own_kind boot state Fence = refl
+    own_kind boot state Safe = refl
+
+    own_head : (boot : BootScript) (state : BootState) (kind : PlanType) → (cache_of kind (nav_at_boot boot.params boot.home state)).head ≡ Some (head_of state.heads kind)
+    own_head boot state Mission = refl
+    own_head boot state Fence = refl
+    own_head boot state Safe = refl
 
 -- The Navigator.
 
@@ -73,12 +154,13 @@ marks_all : (heads : List PlanHead) (marks : List Mark) → All (IsOfPublished h
 marks_all heads [] = All-nil (IsOfPublished heads)
 marks_all heads (mark ∷ marks) = All-cons (IsOfPublished heads) (client.Nav, request.SetMark mark) (mark_requests marks) tt (marks_all heads marks)
 
--- what a line of the Navigator asks; the heads stay
-pub record NavReads (t t' : SharedTold) : Type 0 where
+-- what a line of the Navigator asks and leaves
+pub record NavReads (t : SharedTold) (t' : SharedTold) (n' : NavTold) : Type 0 where
   pub asks : AsksPublished t.board t'.board
   pub heads : t'.board.published ≡ t.board.published
+  pub windows : WindowsFit n'.nav t.board.published
 
-event_reads : (v : NavTaken) (b : BoardState) (given : VehicleLine) (entry : NavEntry) (v' : NavTaken) (b' : BoardState) → WindowsFit v b.published → EventLaw v b given entry v' b' → AsksPublished b b' × (b'.published ≡ b.published)
+event_reads : (v : NavTaken) (b : BoardState) (given : VehicleLine) (entry : NavEntry) (v' : NavTaken) (b' : BoardState) → WindowsFit v b.published → EventLaw v b given entry v' b' → AsksPublished b b' × (b'.published ≡ b.published) × WindowsFit v' b.published
 event_reads v b given entry v' b' fits e =
     let asks : EventAsks v b v' b' = event_asks v b given entry v' b' fits.own e in
     let is : (kind : PlanType) → (cache_of kind v').head ≡ Some (head_of b.published kind) = λ kind. event_heads v b given entry v' b' fits.own e kind ∙ adopts v b.published kind fits in
@@ -89,30 +171,93 @@ event_reads v b given entry v' b' fits e =
           (reads_all b.published asks.kind (id_of (cache_of asks.kind v').head) asks.seqs (ap id_of (is asks.kind)) (subst (λ (h : Option PlanHead). All (λ seq. seq < count_of h) asks.seqs) (is asks.kind) asks.has))
           (marks_all b.published asks.marks)),
       ap (λ (x : BoardState). x.published) asks.board,
+      windows_new v' b.published (event_windows v b given entry v' b' fits.own e) is,
     )
 
-nav_reads : (t : SharedTold) (n : NavTold) (made : Line) (t' : SharedTold) (n' : NavTold) → WindowsFit n.nav t.board.published → NavStep t n made t' n' → NavReads t t'
+-- a reply that is taken leaves each window on its plan
+reply_windows : (v : NavTaken) (asked : Asked) (given : Reply) (heads : List PlanHead) → WindowsFit v heads → WindowsFit (reply_taken v asked given) heads
+reply_windows v (about.Read kind id seq) given heads fits = windows_same v (reply_taken v (about.Read kind id seq) given) heads (λ k. got_head v kind id seq given k) (record { client = λ k. got_client v kind id seq given k ∙ fits.own.client k; kind = λ k. got_kind v kind id seq given k ∙ fits.own.kind k }) fits where
+  got_head : (v : NavTaken) (kind : PlanType) (id seq : ℕ) (given : Reply) (k : PlanType) → (cache_of k (reply_taken v (about.Read kind id seq) given)).head ≡ (cache_of k v).head
+  got_head v kind id seq given Mission = (SamePlan-got v.mission.cache (about.Read kind id seq) given).head
+  got_head v kind id seq given Fence = (SamePlan-got v.fence.cache (about.Read kind id seq) given).head
+  got_head v kind id seq given Safe = (SamePlan-got v.safe.cache (about.Read kind id seq) given).head
+
+  got_client : (v : NavTaken) (kind : PlanType) (id seq : ℕ) (given : Reply) (k : PlanType) → (cache_of k (reply_taken v (about.Read kind id seq) given)).client ≡ (cache_of k v).client
+  got_client v kind id seq given Mission = (SamePlan-got v.mission.cache (about.Read kind id seq) given).client
+  got_client v kind id seq given Fence = (SamePlan-got v.fence.cache (about.Read kind id seq) given).client
+  got_client v kind id seq given Safe = (SamePlan-got v.safe.cache (about.Read kind id seq) given).client
+
+  got_kind : (v : NavTaken) (kind : PlanType) (id seq : ℕ) (given : Reply) (k : PlanType) → (cache_of k (reply_taken v (about.Read kind id seq) given)).kind ≡ (cache_of k v).kind
+  got_kind v kind id seq given Mission = (SamePlan-got v.mission.cache (about.Read kind id seq) given).kind
+  got_kind v kind id seq given Fence = (SamePlan-got v.fence.cache (about.Read kind id seq) given).kind
+  got_kind v kind id seq given Safe = (SamePlan-got v.safe.cache (about.Read kind id seq) given).kind
+reply_windows v (about.Write kind id seq) given heads fits = fits
+reply_windows v (about.Commit kind id count) given heads fits = fits
+reply_windows v (about.SetMark mark) given heads fits =
+    let marked : FlightState = record v.flight { marks = mark_answered v.flight.marks (is_done given) } in
+    windows_if (has_id v.mission.cache.head mark.id) (record v { flight = marked }) v heads (windows_like v (record v { flight = marked }) heads (λ k. flight_cache v marked k) fits) fits
+
+dropped_head : (v : NavTaken) (kind : PlanType) (seq : ℕ) (k : PlanType) → (cache_of k (drop_taken v kind seq)).head ≡ (cache_of k v).head
+dropped_head v Mission seq Mission = refl
+dropped_head v Mission seq Fence = refl
+dropped_head v Mission seq Safe = refl
+dropped_head v Fence seq Mission = refl
+dropped_head v Fence seq Fence = refl
+dropped_head v Fence seq Safe = refl
+dropped_head v Safe seq Mission = refl
+dropped_head v Safe seq Fence = refl
+dropped_head v Safe seq Safe = refl
+
+dropped_client : (v : NavTaken) (kind : PlanType) (seq : ℕ) (k : PlanType) → (cache_of k (drop_taken v kind seq)).client ≡ (cache_of k v).client
+dropped_client v Mission seq Mission = refl
+dropped_client v Mission seq Fence = refl
+dropped_client v Mission seq Safe = refl
+dropped_client v Fence seq Mission = refl
+dropped_client v Fence seq Fence = refl
+dropped_client v Fence seq Safe = refl
+dropped_client v Safe seq Mission = refl
+dropped_client v Safe seq Fence = refl
+dropped_client v Safe seq Safe = refl
+
+dropped_kind : (v : NavTaken) (kind : PlanType) (seq : ℕ) (k : PlanType) → (cache_of k (drop_taken v kind seq)).kind ≡ (cache_of k v).kind
+dropped_kind v Mission seq Mission = refl
+dropped_kind v Mission seq Fence = refl
+dropped_kind v Mission seq Safe = refl
+dropped_kind v Fence seq Mission = refl
+dropped_kind v Fence seq Fence = refl
+dropped_kind v Fence seq Safe = refl
+dropped_kind v Safe seq Mission = refl
+dropped_kind v Safe seq Fence = refl
+dropped_kind v Safe seq Safe = refl
+
+drop_windows : (v : NavTaken) (kind : PlanType) (seq : ℕ) (heads : List PlanHead) → WindowsFit v heads → WindowsFit (drop_taken v kind seq) heads
+drop_windows v kind seq heads fits = windows_same v (drop_taken v kind seq) heads (λ k. dropped_head v kind seq k) (record { client = λ k. dropped_client v kind seq k ∙ fits.own.client k; kind = λ k. dropped_kind v kind seq k ∙ fits.own.kind k }) fits
+
+nav_reads : (t : SharedTold) (n : NavTold) (made : Line) (t' : SharedTold) (n' : NavTold) → WindowsFit n.nav t.board.published → NavStep t n made t' n' → NavReads t t' n'
 nav_reads t n (line.Got asked given) t' n' fits h =
     let board : t'.board ≡ heard t.board client.Nav h.1.rest = ap (λ (x : SharedTold). x.board) h.1.shared in
     let still = heard_waits t.board client.Nav h.1.rest in
     record {
       asks = asks_nothing t.board t'.board (ap (λ (b : BoardState). b.waiting) board ∙ still.0);
       heads = ap (λ (b : BoardState). b.published) board ∙ still.1;
+      windows = subst (λ (x : NavTold). WindowsFit x.nav t.board.published) (sym h.1.nav) (reply_windows n.nav asked given t.board.published fits);
     }
 nav_reads t n (line.Dropped kind seq) t' n' fits h =
     let board : t'.board ≡ t.board = ap (λ (x : SharedTold). x.board) h.1.shared in
     record {
       asks = asks_nothing t.board t'.board (ap (λ (b : BoardState). b.waiting) board);
       heads = ap (λ (b : BoardState). b.published) board;
+      windows = subst (λ (x : NavTold). WindowsFit x.nav t.board.published) (sym h.1.nav) (drop_windows n.nav kind seq t.board.published fits);
     }
 nav_reads t n (line.Nav given entry) t' n' fits h =
     let r = event_reads n.nav t.board given entry n'.nav t'.board fits h.1.law in
-    record { asks = r.0; heads = r.1 }
+    record { asks = r.0; heads = r.1; windows = r.2 }
 nav_reads t n other t' n' fits h =
     let board : t'.board ≡ t.board = ap (λ (x : SharedTold). x.board) (client_stays client.Nav t n.schedule other t' n'.schedule h.1.step).shared in
     record {
       asks = asks_nothing t.board t'.board (ap (λ (b : BoardState). b.waiting) board);
       heads = ap (λ (b : BoardState). b.published) board;
+      windows = subst (λ (x : NavTaken). WindowsFit x t.board.published) (sym h.1.nav) fits;
     }
 
 -- Watchers.
@@ -205,6 +350,16 @@ module _ {W : Type 0} where
   step_reads rules waits t (Watch w) made t' (Watch w') well rests h = same_rises t t' (watch_reads rules waits t w made t' w' well rests h)
   step_reads rules waits t a made t' a' well rests h = elim h [ ]
 
+  worker_stays : (rules : WatchRules W) (t : SharedTold) (made : Line) (t' : SharedTold) (n' : NavTold) → ActorStep rules t Worker made t' (Nav n') → ⊥
+  worker_stays rules t made t' n' h = let named = step_named rules t Worker made t' (Nav n') h in cc
+
+  -- the Navigator's windows behind its own line
+  step_windows : (rules : WatchRules W) (waits : W → Awaited) (t : SharedTold) (a : ActorTold W) (made : Line) (t' : SharedTold) (n' : NavTold) → ReadsRest waits t a → ActorStep rules t a made t' (Nav n') → WindowsFit n'.nav t.board.published
+  step_windows rules waits t (Nav n) made t' n' rests h = (nav_reads t n made t' n' rests h).windows
+  step_windows rules waits t Worker made t' n' rests h = absurd (worker_stays rules t made t' n' h)
+  step_windows rules waits t (Link l) made t' n' rests h = elim h [ ]
+  step_windows rules waits t (Watch w) made t' n' rests h = elim h [ ]
+
   -- a local's actor rests on what the local fits
   told_back : (ls : List (Local W)) (actors : List (ActorTold W)) (k : ℕ) (a : ActorTold W) → AreTold ls actors → slice_get actors k ≡ Some a → (l : Local W) × (slice_get ls k ≡ Some l) × IsToldOf l a
   told_back [] [] k a told at = absurd cc
@@ -215,38 +370,32 @@ module _ {W : Type 0} where
       (l, refl, subst (λ (x : ActorTold W). IsToldOf l x) is told.0)
   told_back (l ∷ ls) (b ∷ actors) (suc k) a told at = told_back ls actors k a told.1 at
 
-  role_rests : (waits : W → Awaited) (s : Shared) (arrived : List ℕ) (r : Role W) (items : List Item) → BoardFits s.transfer s.board → s.power ≡ true → RoleFits waits s r → RoleKnows s r → ReadsRest waits (shared_told s arrived) (role_told r items)
-  role_rests waits s arrived (role.Worker taken) items board on fits knows = board
-  role_rests waits s arrived (role.Link l) items board on fits knows = tt
-  role_rests waits s arrived (role.Nav n) items board on fits knows = windows_taken n.navigator knows.items items s.board.published knows.windows
-  role_rests waits s arrived (role.Watch w) items board on fits knows = record { heads = fits.heads; has = fits.client; replies = fits.replies on; asks = fits.asks }
+  role_rests : (waits : W → Awaited) (s : Shared) (arrived : List ℕ) (r : Role W) (items : List Item) (board : BoardFits s.transfer s.board) → s.power ≡ true → RoleFits waits s r → ((n : NavTold) → role_told r items ≡ Nav n → WindowsFit n.nav s.board.published) → ReadsRest waits (shared_told s arrived) (role_told r items)
+  role_rests waits s arrived (role.Worker taken) items board on fits navs = board
+  role_rests waits s arrived (role.Link l) items board on fits navs = tt
+  role_rests waits s arrived (role.Nav n) items board on fits navs = navs (nav_told n items) refl
+  role_rests waits s arrived (role.Watch w) items board on fits navs = record { heads = fits.heads; has = fits.client; replies = fits.replies on; asks = fits.asks }
 
-  -- the reads that a line asks, where the shared part fits each local
-  pub line_reads : (rules : WatchRules W) (waits : W → Awaited) (s : Shared) (ls : List (Local W)) (t t' : BootTold W) (made : Line) → AnswersWell rules waits → EachFits number_of (LocalFits waits) s ls → Tells s ls t → LineStep rules t made t' → AsksPublished t.shared.board t'.shared.board
-  line_reads rules waits s ls t t' made well fits tells step =
-      let back = told_back ls t.actors step.place step.old tells.actors step.at in
-      let own = (fits step.place back.0 back.1).1 in
+  -- what a line of a core asks, and what it leaves of the windows
+  pub line_reads : (rules : WatchRules W) (waits : W → Awaited) (c : CoreState W) (t t' : BootTold W) (made : Line) → AnswersWell rules waits → CoreFits waits c → Tells c.shared c.locals t → NavsFit t → LineStep rules t made t' → AsksPublished t.shared.board t'.shared.board × NavsFit t'
+  line_reads rules waits c t t' made well fits tells navs step =
+      let back = told_back c.locals t.actors step.place step.old tells.actors step.at in
+      let own = (fits.each step.place back.0 back.1).1 in
       let arrived : List ℕ = t.shared.arrived in
-      let on : s.power ≡ true = sym (ap (λ (x : SharedTold). x.power) tells.shared) ∙ ready_on t.shared step.old step.ready in
+      let on : c.shared.power ≡ true = sym (ap (λ (x : SharedTold). x.power) tells.shared) ∙ ready_on t.shared step.old step.ready in
       let rests : ReadsRest waits t.shared step.old =
       subst (λ (x : SharedTold). ReadsRest waits x step.old) (sym tells.shared)
-      (subst (λ (a : ActorTold W). ReadsRest waits (shared_told s arrived) a) (sym back.2.told)
-      (role_rests waits s arrived back.0.role back.2.items own.shared.board on own.role own.knows)) in
-      (step_reads rules waits t.shared step.old made t'.shared step.new well rests step.step).asks
-
-  -- the windows of each Navigator that is told of
-  role_windows : (s : Shared) (r : Role W) (items : List Item) (n : NavTold) → RoleKnows s r → role_told r items ≡ Nav n → WindowsFit n.nav s.board.published
-  role_windows s (role.Worker taken) items n knows is = absurd cc
-  role_windows s (role.Link l) items n knows is = absurd cc
-  role_windows s (role.Watch w) items n knows is = absurd cc
-  role_windows s (role.Nav own) items n knows is =
-      let same : nav_told own items ≡ n = cc in
-      subst (λ (x : NavTold). WindowsFit x.nav s.board.published) same (windows_taken own.navigator knows.items items s.board.published knows.windows)
-
-  pub navs_fit : (waits : W → Awaited) (s : Shared) (ls : List (Local W)) (t : BootTold W) → EachFits number_of (LocalFits waits) s ls → Tells s ls t → NavsFit t
-  navs_fit waits s ls t fits tells place n at =
-      let back = told_back ls t.actors place (Nav n) tells.actors at in
-      subst (λ (x : SharedTold). WindowsFit n.nav x.board.published) (sym tells.shared) (role_windows s back.0.role back.2.items n (fits place back.0 back.1).1.knows (sym back.2.told))
+      (subst (λ (a : ActorTold W). ReadsRest waits (shared_told c.shared arrived) a) (sym back.2.told)
+      (role_rests waits c.shared arrived back.0.role back.2.items own.shared.board on own.role
+      (λ n is. subst (λ (x : SharedTold). WindowsFit n.nav x.board.published) tells.shared (navs step.place n (step.at ∙ ap (λ (x : ActorTold W). Some x) (back.2.told ∙ is)))))) in
+      let reads = step_reads rules waits t.shared step.old made t'.shared step.new well rests step.step in (
+        reads.asks,
+        λ place n at. windows_rise n.nav t.shared.board.published t'.shared.board.published reads.rises
+            (elim (set_at t.actors step.place place step.new (Nav n) (subst (λ (actors : List (ActorTold W)). slice_get actors place ≡ Some (Nav n)) step.actors at)) [
+              | inl here ↦ step_windows rules waits t.shared step.old made t'.shared n rests (subst (λ (a : ActorTold W). ActorStep rules t.shared step.old made t'.shared a) (sym here.1) step.step)
+              | inr there ↦ navs place n there.1
+            ]),
+      )
 
   -- the Navigator of a boot
   watches_none : (number : ℕ) (own : List W) (inputs : List (Actor × InputLine)) (place : ℕ) (n : NavTold) → slice_get (watches_begun number own inputs) place ≡ Some (Nav n) → ⊥

@@ -5,7 +5,7 @@ use Rattle.mission_model.specs.declared.flight_line.Line.TheVariants as line
 use Rattle.mission_model.specs.declared.schedule.BootScript.{BootScript}
 use Rattle.request_board.specs.WatchLaw.{WatchRules}
 use Rattle.vehicle_core.specs.Told.{BootTold, begun}
-use Rattle.vehicle_core.specs.CoreRun.{Leads, BootCut, BootUp, Ended, Part, CoreRun, CoreSoFar}
+use Rattle.vehicle_core.specs.CoreRun.{LineStep, Leads, BootCut, BootUp, BootEnded, Ended, Part, CoreRun, CoreSoFar}
 
 -- where a list is cut in two places, one of them is not behind the other
 pub cut_twice : {X : Type 0} (a b c d : List X) → a ++ b ≡ c ++ d → ((e : List X) × (c ≡ a ++ e) × (b ≡ e ++ d)) ⊎ ((e : List X) × (a ≡ c ++ e) × (d ≡ e ++ b))
@@ -115,7 +115,3 @@ module _ {W : Type 0} where
     ]
     | inr e ↦ inr (inr (run.0, e.0, e.1, run.3, so_far_begins rules boots others e.0 second (subst (λ (lines : List Line). CoreSoFar rules boots others lines) e.2 run.4)))
   ]
-
-  -- the part of one boot
-  pub one_run : (rules : WatchRules W) (boot : BootScript) (own : List W) (lines : List Line) → Part rules boot own lines → CoreRun rules (boot ∷ []) (own ∷ []) lines
-  one_run rules boot own lines part = (lines, [], sym (append-nil lines), part, refl)

@@ -21,8 +21,6 @@ use Rattle.vehicle_core.specs.declared.local.Role.TheVariants as role
 use Rattle.vehicle_core.specs.SharedState.{Counted}
 use Rattle.vehicle_core.specs.Steps.{RoleFits, RoleSuits}
 use Rattle.vehicle_core.specs.UploadFits.{BoardFits, DraftFits}
-use Rattle.vehicle_core.specs.Uploading.{IsUploading}
-use Rattle.vehicle_core.specs.Windows.{WindowsFit}
 
 -- the shared part: some arrivals were counted, and the board and the transfer fit one another
 pub record SharedFits (s : Shared) : Type 0 where
@@ -30,13 +28,11 @@ pub record SharedFits (s : Shared) : Type 0 where
   pub counted : Counted arrived s
   pub board : BoardFits s.transfer s.board
 
--- of the plan that a link brings some items were heard, and it has a new id; where an upload has begun it is that plan, and it has the
--- item that is requested
+-- of the plan that a link brings some items were heard, and it has a new id
 pub record LinkKnows (s : Shared) (l : LinkState) : Type 0 where
   pub heard : List Item
   pub hears : Heard l.session.stage heard
   pub draft : DraftFits s.transfer s.board.published (link_of l.session.stage heard)
-  pub uploads : IsUploading l.schedule (link_of l.session.stage heard)
 
 -- the adopted mission is no later one than the published, and the same where its id is the same; the requests that the
 -- Navigator has outstanding are those that it asked
@@ -45,12 +41,11 @@ pub record NavAdopts (v : NavTaken) (b : BoardState) : Type 0 where
   pub same : has_id v.mission.cache.head (head_of b.published Mission).id ≡ true → (head_of b.published Mission).count ≡ count_of v.mission.cache.head
   pub asked : HasAsked v b
 
--- of the mission some items were taken; the windows of all types are of plans that are published, or were before
+-- of the mission some items were taken
 pub record NavKnows (s : Shared) (n : NavActor) : Type 0 where
   pub items : List Item
   pub shown : HasShown n.navigator items
   pub adopts : NavAdopts (with_taken n.navigator items) s.board
-  pub windows : WindowsFit (with_taken n.navigator items) s.board.published
 
 -- an actor's number among all, where there are so many links: the worker is the first, then come links, Navigator and watchers
 abbrev pub number_among : ℕ → Actor → ℕ

@@ -125,7 +125,6 @@ module _ (Apart : Client → Type 0) (s s' : Shared) (arrived arrived' : List �
     heard = knows.heard;
     hears = knows.hears;
     draft = leaves.drafts l.session knows.heard (subst (λ (n : ℕ). Apart (Link n)) (sym fits.number) apart) fits.session knows.draft;
-    uploads = knows.uploads;
   }
 
 -- what a watcher waits for is still what it has outstanding

@@ -1,5 +1,5 @@
 -- What a line tells by itself: who made it, whether the power is on behind it, which reply it says.
-use Rattle.std.specs.Prelude.{◌≡◌, Bool, true, Option, Some, None}
+use Rattle.std.specs.Prelude.{◌≡◌, Bool, true, false, Option, Some, None}
 use Rattle.mission_model.specs.declared.flight_line.Actor.{Actor}
 use Rattle.mission_model.specs.declared.flight_line.Actor.TheVariants as actor
 use Rattle.mission_model.specs.declared.flight_line.Line.{Line}
@@ -7,9 +7,6 @@ use Rattle.mission_model.specs.declared.flight_line.Line.TheVariants as line
 use Rattle.mission_model.specs.declared.request.Client.{Client}
 use Rattle.mission_model.specs.declared.request.Client.TheVariants as client
 use Rattle.mission_model.specs.declared.request.Reply.{Reply}
-use Rattle.mission_model.specs.declared.message.Said.{Said}
-use Rattle.mission_model.specs.declared.message.Said.TheVariants as said
-use Rattle.mission_model.specs.BootScripts.{NamesTypes}
 use Rattle.turn_cell.specs.declared.machine.StepOut.{StepOut}
 use Rattle.turn_cell.specs.declared.machine.StepOut.TheVariants.{Made, Idle}
 use Rattle.vehicle_core.specs.ActorStep.{power_after}
@@ -53,24 +50,3 @@ reply_given other = None
 abbrev pub SaysGiven : Option Reply → StepOut Line → Type 0
 SaysGiven given (Made made) = reply_given made ≡ given
 SaysGiven given Idle = given ≡ None
-
--- where the message names plan types, it names one that there is, or all of them
-abbrev pub NamesKnown : Said → Type 0
-NamesKnown (said.Count kind count) = NamesTypes kind
-NamesKnown (said.ClearAll kind) = NamesTypes kind
-NamesKnown other = Unit {0}
-
--- so does the message that a line shows, if it shows one
-abbrev pub ShowsKnown : Line → Type 0
-ShowsKnown (line.Sent number said given) = NamesKnown said
-ShowsKnown other = Unit {0}
-
--- of a line that was made this holds
-abbrev pub IfMade : (Line → Type 0) → StepOut Line → Type 0
-IfMade Holds (Made made) = Holds made
-IfMade Holds Idle = Unit {0}
-
--- the line is no event of the Navigator
-abbrev pub IsNoEvent : Line → Type 0
-IsNoEvent (line.Nav given entry) = ⊥
-IsNoEvent other = Unit {0}

@@ -35,15 +35,12 @@ use Rattle.vehicle_core.specs.LinkActs.{LinkFits, LinkMade, link_told}
 use Rattle.vehicle_core.specs.NavActs.{NavFits, NavMade, nav_told}
 use Rattle.vehicle_core.specs.Steps.{WorkerFits, number_of, RoleFits, RoleActs, Steps}
 use Rattle.vehicle_core.specs.UploadFits.{BoardFits}
-use Rattle.vehicle_core.specs.UploadingKept.{link_step_uploads}
 use Rattle.vehicle_core.specs.UploadLaws.{SameClients}
 use Rattle.vehicle_core.specs.Leaves.{Leaves, client_leaves, link_leaves, link_left, draft_left, watch_left}
 use Rattle.vehicle_core.specs.WorkerKept.{AnyClient, idle_service, taken_leaves, taken_fits, served_leaves, served_fits}
 use Rattle.vehicle_core.specs.LinkKept.{link_step_leaves, grant_told, waits_one}
 use Rattle.vehicle_core.specs.WatchKept.{AnswersWell, watch_step_leaves}
 use Rattle.vehicle_core.specs.NavKept.{may_tick, adopts_left, nav_step_leaves}
-use Rattle.vehicle_core.specs.Windows.{WindowsFit}
-use Rattle.vehicle_core.specs.WindowsKept.{windows_rise, windows_left}
 use Rattle.vehicle_core.specs.Fits.{SharedFits, LinkKnows, NavKnows, number_among, role_name, RoleKnows, LocalFits, LocalSuits}
 
 -- what is in service and the power stay
@@ -165,7 +162,7 @@ link_made_leaves s l made s' l' f fits k h =
       leaves = link_leaves s l s' l' f.arrived later h.keeps left.clients;
       stays = record { service = h.keeps.service; power = h.keeps.power };
       fits = h.keeps.fits;
-      knows = record { heard = led.heard'; hears = led.hears; draft = left.draft; uploads = link_step_uploads (shared_told s f.arrived) (link_told l k.heard) made (shared_told s' later) (link_told l' led.heard') k.uploads led.step };
+      knows = record { heard = led.heard'; hears = led.hears; draft = left.draft };
     }
 
 -- The Navigator.
@@ -194,7 +191,7 @@ nav_made_leaves s n made s' n' f fits k h =
       leaves = client_leaves client.Nav t t' left.keeps left.transfer;
       stays = record { service = left.keeps.service; power = left.keeps.power };
       fits = record { tick = may_tick n'.navigator led.items' s'.transfer s'.board left.board left.adopts; replies = left.replies fits.replies; inputs = left.inputs fits.inputs };
-      knows = record { items = led.items'; shown = led.shown; adopts = left.adopts; windows = subst (WindowsFit (with_taken n'.navigator led.items')) (sym left.keeps.published) (windows_left t (nav_told n k.items) made t' (nav_told n' led.items') k.windows led.step) };
+      knows = record { items = led.items'; shown = led.shown; adopts = left.adopts };
     }
 
 -- Any actor.
@@ -327,7 +324,7 @@ module _ {W : Type 0} where
       let away = nav_apart (role_name r) apart in
       let adopts = adopts_left (with_taken n.navigator knows.items) s.board s'.board (left.leaves.asks client.Nav away) (left.leaves.heads Mission) knows.adopts in (
         record { tick = may_tick n.navigator knows.items s'.transfer s'.board left.shared.board adopts; replies = left.leaves.replies client.Nav away tt fits.replies; inputs = fits.inputs },
-        record { items = knows.items; shown = knows.shown; adopts = adopts; windows = windows_rise (with_taken n.navigator knows.items) s.board.published s'.board.published left.leaves.heads knows.windows },
+        record { items = knows.items; shown = knows.shown; adopts = adopts },
       )
   other_role waits s r s' r' (role.Watch w) apart left fits knows =
       (watch_left waits (ApartOf (role_name r)) s s' left.arrived left.arrived' w left.leaves left.shared.board.heads (watch_apart (role_name r) w.number apart) fits, tt)

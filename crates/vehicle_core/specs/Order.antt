@@ -47,19 +47,8 @@ module _ {W : Type 0} where
     pub order : InOrder rules boot (begun boot state watchers) made told
     pub ended : (ending ≡ []) ⊎ Ended told ending
 
-  -- a boot that was cut before it was up, or one in the stated order
-  abbrev pub PartInOrder : WatchRules W → BootScript → List W → List Line → Type 0
-  PartInOrder rules boot watchers part = BootCut part ⊎ UpInOrder rules boot watchers part
-
   -- the record, whole or as far as it came, is in the stated order in each of its parts
   abbrev pub Order : WatchRules W → List BootScript → List (List W) → List Line → Type 0
   Order rules (boot ∷ boots) (watchers ∷ others) lines =
-      (lines ≡ []) ⊎ ((part rest : List Line) × (lines ≡ part ++ rest) × PartInOrder rules boot watchers part × Order rules boots others rest)
+      (lines ≡ []) ⊎ ((part rest : List Line) × (lines ≡ part ++ rest) × (BootCut part ⊎ UpInOrder rules boot watchers part) × Order rules boots others rest)
   Order rules boots others lines = lines ≡ []
-
-  -- the same of a record in which each of these boots has its part
-  abbrev pub OrderOfAll : WatchRules W → List BootScript → List (List W) → List Line → Type 0
-  OrderOfAll rules [] [] lines = lines ≡ []
-  OrderOfAll rules (boot ∷ boots) (watchers ∷ others) lines =
-      (part rest : List Line) × (lines ≡ part ++ rest) × PartInOrder rules boot watchers part × OrderOfAll rules boots others rest
-  OrderOfAll rules boots others lines = ⊥

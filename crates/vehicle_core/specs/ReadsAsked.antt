@@ -1,14 +1,17 @@
 -- Which reads a line asks: each names the plan that is published then, and one of its items.
-use Rattle.std.specs.Prelude.{◌≡◌, ◌⊎◌, ℕ, ◌<◌, List, [], ◌∷◌, ◌++◌, Some, slice_get}
+use Rattle.std.specs.Prelude.{◌≡◌, ◌⊎◌, ℕ, ◌<◌, ◌≤◌, true, List, [], ◌∷◌, ◌++◌, Some, slice_get}
 use Rattle.mission_model.specs.declared.flight_line.Line.{Line}
 use Rattle.std.specs.List.{All}
 use Rattle.mission_model.specs.declared.plan.PlanHead.{PlanHead}
+use Rattle.mission_model.specs.declared.plan.PlanType.{PlanType}
 use Rattle.mission_model.specs.declared.request.Client.{Client}
 use Rattle.mission_model.specs.declared.request.Request.{Request}
 use Rattle.mission_model.specs.declared.request.Request.TheVariants as request
 use Rattle.mission_model.specs.PlanTypes.{head_of}
 use Rattle.request_board.specs.BoardState.{BoardState}
-use Rattle.vehicle_core.specs.Windows.{WindowsFit}
+use Rattle.client_cache.specs.CacheState.{has_id, id_of}
+use Rattle.navigator.specs.NavState.{NavTaken, cache_of}
+use Rattle.navigator.specs.Asking.{OwnWindows}
 use Rattle.request_board.specs.WatchLaw.{WatchRules}
 use Rattle.vehicle_core.specs.Told.{BootTold, NavTold, Nav}
 use Rattle.vehicle_core.specs.CoreRun.{LineStep}
@@ -28,7 +31,13 @@ pub record AsksPublished (b b' : BoardState) : Type 0 where
   pub waiting : b'.waiting ≡ left ++ asks
   pub published : All (IsOfPublished b.published) asks
 
--- of each Navigator that is told of the windows are of plans that are published, or were before
+-- the Navigator's windows are of plans that are published, or were before
+pub record WindowsFit (v : NavTaken) (heads : List PlanHead) : Type 0 where
+  pub own : OwnWindows v
+  pub earlier : (kind : PlanType) → id_of (cache_of kind v).head ≤ (head_of heads kind).id
+  pub same : (kind : PlanType) → has_id (cache_of kind v).head (head_of heads kind).id ≡ true → (cache_of kind v).head ≡ Some (head_of heads kind)
+
+-- so are those of each Navigator that is told of
 abbrev pub NavsFit : {W : Type 0} → BootTold W → Type 0
 NavsFit t = (place : ℕ) (n : NavTold) → slice_get t.actors place ≡ Some (Nav n) → WindowsFit n.nav t.shared.board.published
 

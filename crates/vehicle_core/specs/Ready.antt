@@ -1,5 +1,5 @@
 -- What an actor's next step is, and so when it is ready: a table on what the lines tell.
-use Rattle.std.specs.Prelude.{◌≡◌, ℕ, ◌==◌, ◌&&◌, ◌||◌, Bool, true, false, List, [], ◌∷◌, length, is_some, nat_le, nat_lt, if◌then◌else◌}
+use Rattle.std.specs.Prelude.{ℕ, ◌==◌, ◌&&◌, ◌||◌, Bool, true, false, List, [], ◌∷◌, length, is_some, nat_le, nat_lt, if◌then◌else◌}
 use Rattle.mission_model.specs.declared.flight_line.Actor.{Actor}
 use Rattle.mission_model.specs.declared.request.Client.{Client}
 use Rattle.mission_model.specs.declared.request.Client.TheVariants as client
@@ -80,11 +80,6 @@ module _ {W : Type 0} where
   abbrev pub has_ready : SharedTold → Actor → List (ActorTold W) → Bool
   has_ready t name [] = false
   has_ready t name (a ∷ actors) = (same_actor name (name_of a) && is_ready t a) || has_ready t name actors
-
-  -- none of the actors of these names is among these and ready
-  abbrev pub AllRest : SharedTold → List (ActorTold W) → List Actor → Type 0
-  AllRest t actors [] = Unit {0}
-  AllRest t actors (name ∷ names) = (has_ready t name actors ≡ false) × AllRest t actors names
 
   -- one of these is ready
   abbrev pub is_any_ready : SharedTold → List (ActorTold W) → Bool

@@ -1,26 +1,27 @@
 -- What a local has taken decides which input suits it; only the first local takes; and of a sound core something is always told.
-use Rattle.std.proofs.Common.{◌≡◌, ◌⊎◌, inl, inr, ℕ, suc, Bool, true, false, List, [], ◌∷◌, length, Option, Some, None, is_some, refl, sym, ap, ◌∙◌, arith}
-use Rattle.std.specs.Prelude.{◌<◌, slice_get, if◌then◌else◌}
+use Rattle.std.proofs.Common.{◌≡◌, ◌⊎◌, inl, inr, ℕ, zero, suc, Bool, true, false, List, [], ◌∷◌, length, Option, Some, None, is_some, refl, sym, subst, ap, ◌∙◌}
+use Rattle.std.specs.Prelude.{slice_get, if◌then◌else◌}
+use Rattle.mission_model.specs.declared.flight_line.Line.{Line}
 use Rattle.mission_model.specs.declared.plan.Item.{Item}
 use Rattle.mission_model.specs.declared.request.Client.{Client}
 use Rattle.mission_model.specs.declared.request.Request.{Request}
 use Rattle.mission_model.specs.declared.request.Reply.{Reply}
 use Rattle.request_board.specs.Watching.{Awaited}
 use Rattle.request_board.specs.WatchLaw.{WatchRules}
+use Rattle.turn_cell.specs.declared.machine.StepOut.{StepOut}
 use Rattle.turn_cell.specs.declared.machine.StepOut.TheVariants.{Idle}
 use Rattle.vehicle_core.specs.declared.shared.Shared.{Shared}
 use Rattle.vehicle_core.specs.declared.local.Local.{Local}
 use Rattle.vehicle_core.specs.declared.local.Role.{Role}
 use Rattle.vehicle_core.specs.declared.local.Role.TheVariants as role
 use Rattle.vehicle_core.specs.SharedState.{shared_told}
-use Rattle.turn_cell.specs.Legal.{EachFits}
-use Rattle.vehicle_core.specs.Told.{SharedTold, ActorTold, BootTold}
-use Rattle.vehicle_core.specs.Ready.{has_first, Replies, Goes, Rests}
-use Rattle.vehicle_core.specs.LocalState.{local_told, request_of, taken_by, taken_of}
+use Rattle.vehicle_core.specs.Told.{ActorTold, BootTold}
+use Rattle.vehicle_core.specs.Ready.{has_first, Turn, Replies, Goes, Rests}
+use Rattle.vehicle_core.specs.LocalState.{local_told, request_of, taken_of}
 use Rattle.vehicle_core.specs.WorkerActs.{ReplySuits, WorkerIdle}
 use Rattle.vehicle_core.specs.Steps.{WorkerFits, number_of, RoleFits, RoleActs, Steps}
 use Rattle.vehicle_core.specs.Fits.{SharedFits, number_among, role_name, RoleKnows, LocalFits, LocalSuits}
-use Rattle.vehicle_core.specs.CoreState.{RoleHolds, AreTold, Tells, ReplyTo, CoreState, CoreFits, core_taken, taken_among}
+use Rattle.vehicle_core.specs.CoreState.{RoleHolds, AreTold, Tells, ReplyTo, CoreState, CoreFits}
 
 -- Which input suits.
 
@@ -122,20 +123,3 @@ module _ {W : Type 0} where
   fits_told waits s ls shared each =
       let all = all_told s ls (λ k l at. (each k l at).knows) in
       (record { shared = shared_told s shared.arrived; actors = all.0 }, record { shared = refl; counted = shared.counted; actors = all.1 })
-
-  -- What the worker has taken is what the board has in service.
-
-  by_role : (waits : W → Awaited) (s : Shared) (r : Role W) (links number : ℕ) → number ≡ 0 → number ≡ number_among links (role_name r) → RoleFits waits s r → taken_by r ≡ request_of s.board.service
-  by_role waits s (role.Worker taken) links number first is fits = ap request_of (sym fits.service)
-  by_role waits s (role.Link l) links number first is fits = absurd (omega (arith, first, is))
-  by_role waits s (role.Nav n) links number first is fits = absurd (omega (arith, first, is))
-  by_role waits s (role.Watch w) links number first is fits = absurd (omega (arith, first, is))
-
-  first_takes : (waits : W → Awaited) (s : Shared) (ls : List (Local W)) → 0 < length ls → EachFits number_of (LocalFits waits) s ls → taken_among ls ≡ request_of s.board.service
-  first_takes waits s [] some each = absurd (omega (arith, some))
-  first_takes waits s (l ∷ ls) some each =
-      let own = each 0 l refl in
-      by_role waits s l.role (length s.board.link_posted) l.number own.0 own.1.number own.1.role
-
-  pub core_takes : (waits : W → Awaited) (c : CoreState W) (t : BootTold W) → CoreFits waits c → Tells c.shared c.locals t → core_taken c ≡ request_of t.shared.board.service
-  core_takes waits c t fits tells = first_takes waits c.shared c.locals (omega (arith, fits.count)) fits.each ∙ ap (λ (x : SharedTold). request_of x.board.service) (sym tells.shared)

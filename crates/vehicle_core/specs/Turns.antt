@@ -1,5 +1,5 @@
 -- Turns of the actors of a core, one after another, and the lines that they made.
-use Rattle.std.specs.Prelude.{◌≡◌, Bool, List, [], ◌∷◌, ◌++◌, Option, Some, None, if◌then◌else◌}
+use Rattle.std.specs.Prelude.{◌≡◌, Bool, List, [], ◌∷◌, ◌++◌, Option, if◌then◌else◌}
 use Rattle.mission_model.specs.declared.flight_line.Actor.{Actor}
 use Rattle.mission_model.specs.declared.flight_line.Line.{Line}
 use Rattle.mission_model.specs.declared.flight_line.Line.TheVariants as line
@@ -8,12 +8,8 @@ use Rattle.request_board.specs.Watching.{Awaited}
 use Rattle.request_board.specs.WatchLaw.{WatchRules}
 use Rattle.turn_cell.specs.declared.machine.StepOut.{StepOut}
 use Rattle.turn_cell.specs.declared.machine.StepOut.TheVariants.{Made, Idle}
-use Rattle.mission_model.specs.declared.schedule.BootScript.{BootScript}
-use Rattle.vehicle_core.specs.Told.{BootTold}
 use Rattle.vehicle_core.specs.LineTells.{SaysGiven}
-use Rattle.vehicle_core.specs.CoreRun.{Leads}
-use Rattle.vehicle_core.specs.Order.{InOrder}
-use Rattle.vehicle_core.specs.CoreState.{CoreState, CoreFits, CoreSteps, InputSuits, Tells, core_taken}
+use Rattle.vehicle_core.specs.CoreState.{CoreState, CoreFits, CoreSteps, InputSuits, core_taken}
 
 -- an actor whose turn it is, and the reply that it is given
 pub record Turn : Type 0 where
@@ -33,11 +29,6 @@ made_by Idle = []
 abbrev pub ending_of : Bool → Bool → List Line
 ending_of power finished = if power then (if finished then line.End ∷ [] else line.Stuck ∷ []) else []
 
--- the line of an ending, if it has one
-abbrev pub ending_lines : Option Line → List Line
-ending_lines None = []
-ending_lines (Some last) = last ∷ []
-
 module _ {W : Type 0} where
   -- these turns, one after another: each reply suits, each turn is a step of the core, which fits behind it and says the reply that
   -- was given, and these lines were made
@@ -45,17 +36,3 @@ module _ {W : Type 0} where
   Turns rules waits c [] lines c' = (lines ≡ []) × (c' ≡ c)
   Turns rules waits c (turn ∷ turns) lines c' =
       (mid : CoreState W) × (out : StepOut Line) × (rest : List Line) × InputSuits (core_taken c) turn.actor turn.given × CoreSteps rules c turn.actor out mid × SaysGiven turn.given out × CoreFits waits mid × (lines ≡ made_by out ++ rest) × Turns rules waits mid turns rest c'
-
-  -- from one core to another its actors of these names took turns, one after another, with whatever replies suited, and these lines
-  -- were made
-  pub record Played (rules : WatchRules W) (waits : W → Awaited) (c : CoreState W) (actors : List Actor) (lines : List Line) (c' : CoreState W) : Type 0 where
-    pub turns : List Turn
-    pub taken : Turns rules waits c turns lines c'
-    pub named : actors_of turns ≡ actors
-
-  -- these lines of a boot come in the stated order, and lead on from what was told to what is told of a core
-  pub record ToldInOrder (rules : WatchRules W) (boot : BootScript) (t : BootTold W) (lines : List Line) (c : CoreState W) : Type 0 where
-    pub told : BootTold W
-    pub order : InOrder rules boot t lines told
-    pub leads : Leads rules t lines told
-    pub tells : Tells c.shared c.locals told

@@ -69,7 +69,7 @@ none_behind : {X : Type 0} (xs ys : List X) → xs ++ ys ≡ [] → ys ≡ []
 none_behind [] ys h = h
 none_behind (x ∷ xs) ys h = absurd cc
 
-pub holder_same : (holder : Option ℕ) (k n : ℕ) → holder ≡ Some k → (holder ≡ None) ⊎ (holder ≡ Some n) → k ≡ n
+holder_same : (holder : Option ℕ) (k n : ℕ) → holder ≡ Some k → (holder ≡ None) ⊎ (holder ≡ Some n) → k ≡ n
 holder_same holder k n is or_none = elim or_none [ inl none ↦ absurd (let e : Some k ≡ None = sym is ∙ none in cc) | inr some ↦ (let e : Some k ≡ Some n = sym is ∙ some in cc) ]
 
 one_none : (t : TransferState) (heads : List PlanHead) (n : ℕ) (asks bs : List (Client × Asked)) → bringing asks ≡ bs → UploadFits t heads bs → own_abouts (Link n) asks ≡ [] → (t.holder ≡ None) ⊎ (t.holder ≡ Some n) → bs ≡ []
@@ -90,7 +90,7 @@ pub record IdsGrow (t t' : TransferState) : Type 0 where
   pub count : length t'.ids ≡ length t.ids
   pub last : (kind : PlanType) → last_id t kind ≤ last_id t' kind
 
-pub same_ids : (t : TransferState) (holder : Option ℕ) → IdsGrow t (record t { holder = holder })
+same_ids : (t : TransferState) (holder : Option ℕ) → IdsGrow t (record t { holder = holder })
 same_ids t holder = record { count = refl; last = λ kind. omega arith }
 
 place_within : (kind : PlanType) → place_of kind < 3
@@ -98,12 +98,10 @@ place_within Mission = omega arith
 place_within Fence = omega arith
 place_within Safe = omega arith
 
--- the id that was taken is the last one of its kind
-pub taken_last : (t : TransferState) (kind : PlanType) → length t.ids ≡ 3 → last_id (id_taken t kind) kind ≡ last_id t kind + 1
+taken_last : (t : TransferState) (kind : PlanType) → length t.ids ≡ 3 → last_id (id_taken t kind) kind ≡ last_id t kind + 1
 taken_last t kind three = get_or-set_same t.ids (place_of kind) (last_id t kind + 1) 0 (omega (arith, three, place_within kind))
 
--- taking an id leaves no kind's last one earlier
-pub later_id : (t : TransferState) (kind other : PlanType) → length t.ids ≡ 3 → last_id t other ≤ last_id (id_taken t kind) other
+later_id : (t : TransferState) (kind other : PlanType) → length t.ids ≡ 3 → last_id t other ≤ last_id (id_taken t kind) other
 later_id t kind other three = elim (eqb_tells (place_of other) (place_of kind)) [
   | inl same ↦
       let here : last_id (id_taken t kind) other ≡ last_id t kind + 1 = ap (λ (k : ℕ). Rattle.std.specs.Prelude.slice_index_or (id_taken t kind).ids k 0) same.1 ∙ taken_last t kind three in
@@ -114,11 +112,11 @@ later_id t kind other three = elim (eqb_tells (place_of other) (place_of kind)) 
       omega (arith, there)
 ]
 
-pub taken_grow : (t : TransferState) (kind : PlanType) → length t.ids ≡ 3 → IdsGrow t (id_taken t kind)
+taken_grow : (t : TransferState) (kind : PlanType) → length t.ids ≡ 3 → IdsGrow t (id_taken t kind)
 taken_grow t kind three = record { count = length-set t.ids (place_of kind) (last_id t kind + 1); last = λ other. later_id t kind other three }
 
 -- the id after the last one is new
-pub new_id : (t : TransferState) (b : BoardState) (kind : PlanType) → BoardFits t b → IsNewId (id_taken t kind) b.published kind (last_id t kind + 1)
+new_id : (t : TransferState) (b : BoardState) (kind : PlanType) → BoardFits t b → IsNewId (id_taken t kind) b.published kind (last_id t kind + 1)
 new_id t b kind fits = record { above = omega (arith, fits.last kind); taken = omega (arith, taken_last t kind fits.three.1) }
 
 -- What keeps the board fitting.
@@ -135,8 +133,7 @@ quiet_fits t t' b fits none grow = record {
 brought : (client : Client) (about : Asked) → brings about ≡ true → bringing ((client, about) ∷ []) ≡ (client, about) ∷ []
 brought client about is = ap (λ (b : Bool). cond b ((client, about) ∷ []) []) is
 
--- the holder asks for a plan with a new id
-pub asks_fits : (t : TransferState) (b : BoardState) (n : ℕ) (request : Request) → BoardFits t b → bringing (unanswered b) ≡ [] → brings (asked_of request) ≡ true → t.holder ≡ Some n → BringsNew t b.published (asked_of request) → BoardFits t (asked b (Link n) request)
+asks_fits : (t : TransferState) (b : BoardState) (n : ℕ) (request : Request) → BoardFits t b → bringing (unanswered b) ≡ [] → brings (asked_of request) ≡ true → t.holder ≡ Some n → BringsNew t b.published (asked_of request) → BoardFits t (asked b (Link n) request)
 asks_fits t b n request fits none is holder new =
     let one : bringing (unanswered (asked b (Link n) request)) ≡ (Link n, asked_of request) ∷ [] =
     ap bringing (asked_unanswered b (Link n) request)
@@ -151,8 +148,7 @@ asks_fits t b n request fits none is holder new =
       index = fits.index;
     }
 
--- a wanted index of the published mission is kept
-pub index_fits : (t : TransferState) (b : BoardState) (seq : ℕ) → BoardFits t b → seq < (head_of b.published Mission).count → BoardFits t (index_kept b (head_of b.published Mission).id seq)
+index_fits : (t : TransferState) (b : BoardState) (seq : ℕ) → BoardFits t b → seq < (head_of b.published Mission).count → BoardFits t (index_kept b (head_of b.published Mission).id seq)
 index_fits t b seq fits within = record {
   three = fits.three;
   heads = fits.heads;
@@ -191,11 +187,11 @@ keeps_if b false o p h k = k refl
 acked_keeps : (code : AckCode) (t : TransferState) (b : BoardState) → BoardFits t b → LawKeeps b (acked code t b)
 acked_keeps code t b fits = record { board = fits; draft = tt; clients = same_clients b }
 
-pub not_held : (n : ℕ) (holder : Option ℕ) → is_held n holder ≡ false → (holder ≡ None) ⊎ (holder ≡ Some n)
+not_held : (n : ℕ) (holder : Option ℕ) → is_held n holder ≡ false → (holder ≡ None) ⊎ (holder ≡ Some n)
 not_held n None is = inl refl
 not_held n (Some h) is = elim (eqb_tells h n) [ inl same ↦ inr (ap (λ (k : ℕ). Some k) same.1) | inr apart ↦ absurd (let e : not (h == n) ≡ true = ap not apart.0 in let f : true ≡ false = sym e ∙ is in cc) ]
 
-pub empties_keeps : (n : ℕ) (kind : PlanType) (left : List PlanType) (t : TransferState) (b : BoardState) → BoardFits t b → bringing (unanswered b) ≡ [] → t.holder ≡ Some n → LawKeeps b (empties n kind left t b)
+empties_keeps : (n : ℕ) (kind : PlanType) (left : List PlanType) (t : TransferState) (b : BoardState) → BoardFits t b → bringing (unanswered b) ≡ [] → t.holder ≡ Some n → LawKeeps b (empties n kind left t b)
 empties_keeps n kind left t b fits none holder = record {
   board = asks_fits (id_taken t kind) b n (request.Commit kind (last_id t kind + 1) 0) (quiet_fits t (id_taken t kind) b fits none (taken_grow t kind fits.three.1)) none refl holder (new_id t b kind fits, omega arith);
   draft = tt;
@@ -205,7 +201,7 @@ empties_keeps n kind left t b fits none holder = record {
 within_limit : (kind : PlanType) (count : ℕ) → nat_lt (limit_of kind) count ≡ false → count ≤ limit_of kind
 within_limit kind count is = grind (arith, nat_tests, is)
 
-pub receives_keeps : (kind : PlanType) (count : ℕ) (t : TransferState) (b : BoardState) → BoardFits t b → bringing (unanswered b) ≡ [] → count ≤ limit_of kind → LawKeeps b (receives kind count t b)
+receives_keeps : (kind : PlanType) (count : ℕ) (t : TransferState) (b : BoardState) → BoardFits t b → bringing (unanswered b) ≡ [] → count ≤ limit_of kind → LawKeeps b (receives kind count t b)
 receives_keeps kind count t b fits none within = record {
   board = quiet_fits t (id_taken t kind) b fits none (taken_grow t kind fits.three.1);
   draft = record { id = new_id t b kind fits; count = within };
@@ -230,7 +226,7 @@ clear_keeps n (kind ∷ left) t b fits free =
     let mine : BoardFits (begun t n) b = quiet_fits t (begun t n) b fits none (same_ids t (Some n)) in
     keeps_if b (not (have_ids t (kind ∷ left))) _ _ (λ spent. acked_keeps ack.NoSpace t b fits) (λ some. empties_keeps n kind left (begun t n) b mine none refl))
 
-pub judged_keeps : (n : ℕ) (u : Upload) (seq : ℕ) (item : Item) (code : Option AckCode) (t : TransferState) (b : BoardState) → BoardFits t b → bringing (unanswered b) ≡ [] → t.holder ≡ Some n → UploadIsNew t b.published u → LawKeeps b (judged_law n u seq item code t b)
+judged_keeps : (n : ℕ) (u : Upload) (seq : ℕ) (item : Item) (code : Option AckCode) (t : TransferState) (b : BoardState) → BoardFits t b → bringing (unanswered b) ≡ [] → t.holder ≡ Some n → UploadIsNew t b.published u → LawKeeps b (judged_law n u seq item code t b)
 judged_keeps n u seq item (Some code) t b fits none holder new = acked_keeps code (finished t) b (quiet_fits t (finished t) b fits none (same_ids t None))
 judged_keeps n u seq item None t b fits none holder new = record {
   board = asks_fits t b n (request.Write u.kind u.id seq item) fits none refl holder new.id;
@@ -257,7 +253,7 @@ cancel_keeps n Free t b fits free grant draft = record { board = fits; draft = d
 cancel_keeps n (Writing u) t b fits free grant draft = record { board = fits; draft = draft; clients = same_clients b }
 cancel_keeps n (Committing left) t b fits free grant draft = record { board = fits; draft = draft; clients = same_clients b }
 
-pub own_ended : (n : ℕ) (u : UploadState) (t : TransferState) (b : BoardState) → BoardFits t b → open_asks b (Link n) ≡ [] → HoldsGrant u n t.holder → BoardFits (without_own u t) b
+own_ended : (n : ℕ) (u : UploadState) (t : TransferState) (b : BoardState) → BoardFits t b → open_asks b (Link n) ≡ [] → HoldsGrant u n t.holder → BoardFits (without_own u t) b
 own_ended n (Receiving u) t b fits free grant = quiet_fits t (finished t) b fits (none_bringing t b n fits free (inr grant)) (same_ids t None)
 own_ended n Free t b fits free grant = fits
 own_ended n (Writing u) t b fits free grant = fits
@@ -275,7 +271,7 @@ message_keeps n u message.Timeout t b fits free grant draft = cancel_keeps n u t
 ended_keeps : (n : ℕ) (code : AckCode) (t : TransferState) (b : BoardState) → BoardFits t b → open_asks b (Link n) ≡ [] → t.holder ≡ Some n → LawKeeps b (acked code (finished t) b)
 ended_keeps n code t b fits free holder = acked_keeps code (finished t) b (quiet_fits t (finished t) b fits (none_bringing t b n fits free (inr holder)) (same_ids t None))
 
-pub written_keeps : (n : ℕ) (u : Upload) (t : TransferState) (b : BoardState) → BoardFits t b → open_asks b (Link n) ≡ [] → t.holder ≡ Some n → UploadIsNew t b.published u → LawKeeps b (reply_law n (Writing u) reply.Done t b)
+written_keeps : (n : ℕ) (u : Upload) (t : TransferState) (b : BoardState) → BoardFits t b → open_asks b (Link n) ≡ [] → t.holder ≡ Some n → UploadIsNew t b.published u → LawKeeps b (reply_law n (Writing u) reply.Done t b)
 written_keeps n u t b fits free holder new =
     keeps_if b (nat_lt (length u.heard) u.count) _ _ (λ more. record { board = fits; draft = record { id = new.id; count = new.count }; clients = same_clients b })
     (λ all. record {

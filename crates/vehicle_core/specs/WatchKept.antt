@@ -120,10 +120,6 @@ behind (input ∷ inputs) all = All-tail WatcherInput input inputs all
 keeps_itself : (client : Client) (t : SharedTold) → ClientKeeps client t t
 keeps_itself client t = record { same = record { links = refl; watchers = refl }; others = λ other apart. (refl, refl); published = refl; service = refl; power = refl }
 
--- a shared part of which this is told
-abbrev pub shared_of : SharedTold → Shared
-shared_of t = record { board = t.board; transfer = t.transfer; arrivals = []; power = t.power }
-
 module _ {W : Type 0} where
   -- what a line of a watcher leaves
   pub record WatchLeaves (waits : W → Awaited) (s : Shared) (w : WatchActor W) (s' : Shared) (w' : WatchActor W) (arrived : List ℕ) : Type 0 where
@@ -195,33 +191,3 @@ module _ {W : Type 0} where
   watch_step_leaves rules waits s w (line.Dropped kind seq) s' w' arrived well fits own on h = elim h [ ]
   watch_step_leaves rules waits s w line.End s' w' arrived well fits own on h = elim h [ ]
   watch_step_leaves rules waits s w line.Stuck s' w' arrived well fits own on h = elim h [ ]
-
-  -- The same over what is told.
-
-  -- a watcher of which this is told
-  abbrev pub watcher_of : WatchTold W → WatchActor W
-  watcher_of w = record { number = w.number; watcher = w.watch.watcher; busy = w.watch.busy; schedule = w.schedule }
-
-  -- a line of a watcher is no arrival
-  pub watch_arrives : (rules : WatchRules W) (t : SharedTold) (w : WatchTold W) (made : Line) (t' : SharedTold) (w' : WatchTold W) → WatcherStep rules t w made t' w' → t'.arrived ≡ t.arrived
-  watch_arrives rules t w (line.WatchDid number given note asks) t' w' h = ap (λ (x : SharedTold). x.arrived) h.2.shared
-  watch_arrives rules t w (line.WatchGot number about given note asks) t' w' h = ap (λ (x : SharedTold). x.arrived) h.2.shared
-  watch_arrives rules t w (line.Boot number heads mark) t' w' h = elim h [ ]
-  watch_arrives rules t w (line.BootCut number) t' w' h = elim h [ ]
-  watch_arrives rules t w (line.Arrived who place) t' w' h = elim h [ ]
-  watch_arrives rules t w (line.Met who place) t' w' h = elim h [ ]
-  watch_arrives rules t w (line.Waited who) t' w' h = elim h [ ]
-  watch_arrives rules t w (line.Sent number said given) t' w' h = elim h [ ]
-  watch_arrives rules t w (line.Heard number given said) t' w' h = elim h [ ]
-  watch_arrives rules t w (line.Took who about) t' w' h = elim h [ ]
-  watch_arrives rules t w (line.Served who given) t' w' h = elim h [ ]
-  watch_arrives rules t w (line.Got about given) t' w' h = elim h [ ]
-  watch_arrives rules t w (line.Nav given entry) t' w' h = elim h [ ]
-  watch_arrives rules t w (line.Dropped kind seq) t' w' h = elim h [ ]
-  watch_arrives rules t w line.End t' w' h = elim h [ ]
-  watch_arrives rules t w line.Stuck t' w' h = elim h [ ]
-
-  pub told_watch_leaves : (rules : WatchRules W) (waits : W → Awaited) (t : SharedTold) (w : WatchTold W) (made : Line) (t' : SharedTold) (w' : WatchTold W) → AnswersWell rules waits → BoardFits t.transfer t.board → WatchFits waits (shared_of t) (watcher_of w) → t.power ≡ true → WatcherStep rules t w made t' w' → WatchLeaves waits (shared_of t) (watcher_of w) (shared_of t') (watcher_of w') t.arrived
-  told_watch_leaves rules waits t w made t' w' well fits own on h =
-      watch_step_leaves rules waits (shared_of t) (watcher_of w) made (shared_of t') (watcher_of w') t.arrived well fits own on
-      (subst (λ (places : List ℕ). WatcherStep rules t w made (shared_told (shared_of t') places) w') (watch_arrives rules t w made t' w' h) h)

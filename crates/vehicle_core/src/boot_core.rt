@@ -1,13 +1,11 @@
 //! The core: the shared part and the locals of all actors for one boot. A step is a step of one actor.
 
-ghost use Rattle.std.specs.Prelude.{◌≡◌, IfOk, false, length};
+ghost use Rattle.std.specs.Prelude.{◌≡◌, IfOk, length};
 ghost use Rattle.mission_model.specs.BootScripts.{BootInLimits};
 ghost use Rattle.mission_model.specs.BootStates.{StateInLimits};
 ghost use Rattle.vehicle_core.specs.Told.{BootTold, begun};
-ghost use Rattle.vehicle_core.specs.Ready.{has_ready, is_any_ready};
-ghost use Rattle.vehicle_core.specs.CoreRun.{Ended};
-ghost use Rattle.vehicle_core.specs.Turns.{ending_lines, ending_of};
-ghost use Rattle.vehicle_core.specs.LineTells.{SaysGiven, ShowsKnown, IfMade};
+ghost use Rattle.vehicle_core.specs.Ready.{has_ready};
+ghost use Rattle.vehicle_core.specs.LineTells.{SaysGiven};
 ghost use Rattle.vehicle_core.specs.Fits.{number_among};
 ghost use Rattle.vehicle_core.specs.CoreState.{CoreFits, CoreSteps, InputSuits, Tells, core_taken, finished_among};
 
@@ -65,14 +63,13 @@ impl<W: Watcher> Core<W> {
 
     /// One step of one actor, with the reply that `serve` gave where the worker has taken a request. It makes a line by the
     /// actor's law, or is idle and changes nothing, exactly where the actor is not ready; an actor that the core does not have
-    /// never is. A reply that is given is the one that the line says, and a message that it shows names plan types that there are.
+    /// never is. A reply that is given is the one that the line says.
     pub fn step(&mut self, actor: Actor, input: Option<Reply>) -> StepOut<Line>
         requires fits { CoreFits W.waits self.old }
         requires suits { InputSuits (core_taken self.old) actor input }
         ensures fits { CoreFits W.waits self.new }
         ensures steps { CoreSteps (record { works = W.works; tells = W.tells }) self.old actor result self.new }
         ensures given { SaysGiven input result }
-        ensures known { IfMade ShowsKnown result }
     {
         let place = self.place_of(actor);
         if place < self.locals.len() && self.locals[place].is_named(actor) {
@@ -130,22 +127,6 @@ impl<W> Core<W> {
             }
         }
         true
-    }
-
-    /// The line that ends a boot in which nobody is ready: none after the power went, else `End` where every schedule is
-    /// finished and `Stuck` where one is not.
-    pub fn ending(&self) -> Option<Line>
-        ensures line { ending_lines result ≡ ending_of self.now.shared.power (finished_among self.now.locals) }
-        ensures ends { (t : BootTold W) → Tells self.now.shared self.now.locals t → is_any_ready t.shared t.actors ≡ false → Ended t (ending_lines result) }
-    {
-        if !self.shared.power {
-            return None;
-        }
-        Some(if self.is_finished() {
-            Line::End
-        } else {
-            Line::Stuck
-        })
     }
 
     /// The shared part, and the locals in the order of their numbers: worker, links, Navigator and watchers.

@@ -21,9 +21,8 @@ mod worker;
 
 pub use boot_core::Core;
 pub use laws::{
-    a_line_is_of_one_step, a_round_has_all_actors, actors_keep_their_places,
-    begun_uploads_have_their_item, histories_are_runs, reads_name_published_items, runs_compose,
-    the_power_ends_a_run, turns_come_in_order, turns_go_on, turns_of_the_core_are_a_run,
+    actors_keep_their_places, histories_are_runs, reads_name_published_items, runs_compose,
+    the_power_ends_a_run, turns_of_the_core_are_a_run,
 };
 pub use link::Link;
 pub use local::{Local, Role};

@@ -39,9 +39,6 @@ pub fn step(shared: &mut Shared, link: &mut Link) -> StepOut<Line>
     if !shared.power {
         return StepOut::Idle;
     }
-    if !has_turn(shared, link) {
-        return StepOut::Idle;
-    }
     match shared.board.take_reply(Client::Link(link.number)) {
         Some((asked, reply)) => {
             let answer = hear(shared, link, &asked, &reply);

@@ -34,9 +34,6 @@ pub fn step(shared: &mut Shared, nav: &mut NavActor) -> StepOut<Line>
     if !shared.power {
         return StepOut::Idle;
     }
-    if !has_turn(shared, nav) {
-        return StepOut::Idle;
-    }
     match shared.board.take_reply(Client::Nav) {
         Some((asked, reply)) => {
             nav.navigator.got(&asked, &reply);

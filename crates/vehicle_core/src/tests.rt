@@ -279,21 +279,6 @@ fn play(core: &mut Core<NoWatch>, actors: &[Actor], lines: &mut Vec<Line>) -> Re
 
 static ROUND: [Actor; 6] = [Worker, L0, L1, Nav, V0, V1];
 
-/// So many rounds, whose lines are added.
-fn play_rounds(
-    core: &mut Core<NoWatch>,
-    rounds: u8,
-    lines: &mut Vec<Line>,
-) -> Result<(), AllocError>
-    requires { CoreFits (λ w. nothing_read) core.old }
-    ensures { CoreFits (λ w. nothing_read) core.new }
-{
-    for _ in 0..rounds {
-        play(core, &ROUND, lines)?;
-    }
-    Ok(())
-}
-
 /// The lines of a boot with these inputs: these turns, and then so many rounds.
 fn lines_of(
     alloc: Global,
@@ -387,30 +372,6 @@ fn two_links_upload(rt: HostRuntime) -> Result<(), Fail> {
             (1, RequestInt(0)),
             (1, writes(2, 0)),
             (1, commits(2, 1)),
-            (1, Ack(Accepted)),
-        ]
-        .as_slice()
-    );
-    Ok(())
-}
-
-#[test]
-fn an_upload_of_five_items(rt: HostRuntime) -> Result<(), Fail> {
-    let lines = lines_of(rt.alloc(), &[(L1, Uploads(Mission, 5))], &[], 20)?;
-    assert_eq!(rt;
-        answers(rt.alloc(), &lines)?.as_slice(),
-        [
-            (1, RequestInt(0)),
-            (1, writes(1, 0)),
-            (1, RequestInt(1)),
-            (1, writes(1, 1)),
-            (1, RequestInt(2)),
-            (1, writes(1, 2)),
-            (1, RequestInt(3)),
-            (1, writes(1, 3)),
-            (1, RequestInt(4)),
-            (1, writes(1, 4)),
-            (1, commits(1, 5)),
             (1, Ack(Accepted)),
         ]
         .as_slice()
@@ -519,23 +480,10 @@ fn links_are_ready(rt: HostRuntime) -> Result<(), Fail> {
         ready_after(alloc, &clears, &[L0, Worker, Worker, L0, L0])?,
         NOBODY
     );
-    Ok(())
-}
-
-#[test]
-fn uploads_are_ready(rt: HostRuntime) -> Result<(), Fail> {
-    let alloc = rt.alloc();
     let uploads = [(L0, Uploads(Mission, 1))];
     assert_eq!(rt; ready_after(alloc, &uploads, &[])?, FIRST_LINK);
     assert_eq!(rt; ready_after(alloc, &uploads, &[L0])?, FIRST_LINK);
     assert_eq!(rt; ready_after(alloc, &uploads, &[L0, L0])?, WORKER);
-    let items = [(L0, count(0, 1)), (L0, item(0)), (L0, item(0))];
-    assert_eq!(rt; ready_after(alloc, &items, &[])?, FIRST_LINK);
-    assert_eq!(rt; ready_after(alloc, &items, &[L0])?, FIRST_LINK);
-    assert_eq!(rt; ready_after(alloc, &items, &[L0, L0])?, WORKER);
-    assert_eq!(rt; ready_after(alloc, &items, &[L0, L0, Worker])?, WORKER);
-    let served = [L0, L0, Worker, Worker];
-    assert_eq!(rt; ready_after(alloc, &items, &served)?, FIRST_LINK);
     Ok(())
 }
 
@@ -576,54 +524,6 @@ fn the_navigator_is_ready(rt: HostRuntime) -> Result<(), Fail> {
         ready_after(alloc, &ticks, &[Nav, Nav, Nav, Worker, Worker])?,
         both
     );
-    Ok(())
-}
-
-/// The drops among these lines.
-fn drops(alloc: Global, lines: &[Line]) -> Result<Vec<(PlanType, u16)>, AllocError> {
-    let mut all = Vec::new(alloc);
-    for line in lines {
-        if let Line::Dropped { kind, seq } = line {
-            all.push((*kind, *seq))?;
-        }
-    }
-    Ok(all)
-}
-
-/// A mission of 33 items, one more than its window has places: the verdict needs the last one, and the leg then the first.
-#[test]
-fn drops_are_owed(rt: HostRuntime) -> Result<(), Fail> {
-    let tick = (Nav, Does(VehicleLine::Tick));
-    let wait = (Nav, Waits);
-    let given = [
-        (Nav, Does(VehicleLine::Mode(Mode::Mission))),
-        tick,
-        wait,
-        tick,
-        wait,
-        tick,
-        wait,
-        tick,
-        wait,
-        tick,
-        wait,
-        tick,
-        wait,
-        tick,
-        wait,
-        tick,
-    ];
-    let Some(mut core) = booted(rt.alloc(), 1, 33, &given)? else {
-        assert!(rt; false);
-        return Ok(());
-    };
-    let mut lines = Vec::new(rt.alloc());
-    play_rounds(&mut core, 100, &mut lines)?;
-    assert_eq!(rt;
-        drops(rt.alloc(), &lines)?.as_slice(),
-        [(Mission, 32), (Mission, 0)].as_slice()
-    );
-    assert!(rt; core.is_finished());
     Ok(())
 }
 

@@ -48,12 +48,13 @@ impl Navigator {
         ensures way { self.new.way ≡ self.old.way }
         ensures flight { self.new.flight ≡ self.old.flight }
     {
+        let uses = self.flight.uses();
         take_plans(
             self.params,
             self.home,
             &mut self.fence,
             &mut self.mission,
-            &self.flight,
+            &uses,
         )
     }
 
@@ -82,7 +83,11 @@ impl Navigator {
         ensures rest { self.new ≡ with_own_cache kind.Mission (cache_past self.old.mission.cache seq result) self.old }
     {
         let item = self.mission.known(seq)?;
-        if self.flight.can_stand(self.mission.count(), seq, &item) {
+        if self
+            .flight
+            .uses()
+            .can_stand(self.mission.count(), seq, &item)
+        {
             return Some(item);
         }
         self.mission.forget(seq);

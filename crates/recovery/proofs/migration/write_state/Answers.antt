@@ -2,6 +2,7 @@ use Rattle.std.specs.Prelude.{◌≡◌, ℕ, length}
 use Rattle.std.proofs.Common.{rules, subst, arith, ◌∙◌}
 use Rattle.disk_model.specs.Bytes.{field}
 use Rattle.disk_model.specs.Every.{Run}
+use Rattle.dataman_layout.specs.declared.layout.Layout.TheVariants.{Two}
 use Rattle.dataman_layout.specs.Layouts.{limit_in}
 use Rattle.dataman_layout.specs.StateLaws.{record-state_in}
 use Rattle.recovery.specs.Steps.{Went}
@@ -47,7 +48,7 @@ returns-clause-state g c = λ told.
         slot = omega (arith, seven);
         bytes = subst (λ (n : ℕ). field n 32 z.seen ≡ c.put_slots.new.slots) c.state_at.ensures there ∙ c.put_slots.ensures;
       };
-      named = record-state_in (limit_in c.args.layout kind) payload 0 c.args.head seven (c.encode_state.ensures.read (limit_in c.args.layout kind) (more_items c.args.layout kind c.args.head.count c.requires.count));
+      named = record-state_in (limit_in Two kind) payload 0 c.args.head seven (c.encode_state.ensures.read (limit_in Two kind) (more_items kind c.args.head.count c.requires.count));
     }
 
 pub returns-clause-went : goal.returns-clause-went

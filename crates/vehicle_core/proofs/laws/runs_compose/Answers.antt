@@ -1,7 +1,6 @@
 -- Runs compose.
-use Rattle.vehicle_core.proofs.Runs.{runs_append, so_far_append, whole_so_far, so_far_begins, one_run}
+use Rattle.vehicle_core.proofs.Runs.{runs_append, so_far_append, whole_so_far, so_far_begins}
 use Rattle.vehicle_core.proofs.laws.runs_compose.Goals as goal
-use Rattle.std.proofs.Common.{inl, inr}
 
 pub returns-clause-whole : goal.returns-clause-whole
 returns-clause-whole g c rules boots more others watchers first second one two = runs_append rules boots others first more watchers second one two
@@ -14,9 +13,3 @@ returns-clause-ends g c = whole_so_far
 
 pub returns-clause-begins : goal.returns-clause-begins
 returns-clause-begins g c = so_far_begins
-
-pub returns-clause-one : goal.returns-clause-one
-returns-clause-one g c = one_run
-
-pub returns-clause-up : goal.returns-clause-up
-returns-clause-up g c rules boot watchers lines up = inr (inl up)

@@ -1,5 +1,5 @@
 -- Turns are a run.
-use Rattle.vehicle_core.specs.TurnRuns.{turns_told, turns_lead, boot_up, boot_whole, boot_ends}
+use Rattle.vehicle_core.proofs.TurnRuns.{turns_told, turns_lead, boot_up, boot_whole}
 use Rattle.vehicle_core.proofs.laws.turns_of_the_core_are_a_run.Goals as goal
 
 pub returns-clause-in_turn : goal.returns-clause-in_turn
@@ -13,6 +13,3 @@ returns-clause-up g c = boot_up
 
 pub returns-clause-whole : goal.returns-clause-whole
 returns-clause-whole g c = boot_whole
-
-pub returns-clause-ends : goal.returns-clause-ends
-returns-clause-ends g c = boot_ends

@@ -1,15 +1,12 @@
--- A reply is answered; a link that has nothing to do is idle.
-use Rattle.std.proofs.Common.{refl, sym, ◌∙◌, subst}
+-- A reply is answered.
+use Rattle.std.proofs.Common.{subst}
 use Rattle.mission_model.specs.declared.request.Asked.{Asked}
 use Rattle.mission_model.specs.declared.request.Client.TheVariants.{Link}
 use Rattle.mission_model.specs.declared.request.Reply.{Reply}
 use Rattle.mission_model.specs.Replies.{CanHear}
 use Rattle.request_board.specs.BoardState.{posted}
-use Rattle.vehicle_core.specs.SharedState.{shared_told}
-use Rattle.vehicle_core.specs.ActorStep.{link_turn}
-use Rattle.vehicle_core.specs.LinkActs.{CanHearAll, link_told}
+use Rattle.vehicle_core.specs.LinkActs.{CanHearAll}
 use Rattle.vehicle_core.proofs.Lists.{first_of}
-use Rattle.vehicle_core.proofs.Resting.{rests_of}
 use Rattle.vehicle_core.proofs.LinkLines.{heard_made}
 use Rattle.vehicle_core.proofs.link.step.Goals as goal
 
@@ -22,10 +19,3 @@ pub returns-in-Some : goal.returns-in-Some
 returns-in-Some c =
     heard_made c.args.shared.now c.args.link.now c.in-Some.asked c.in-Some.reply c.take_reply.new.self c.hear-answer.result c.hear-answer.new.shared c.hear-answer.new.link
     c.requires c.if-not-shared.false c.in-Some.ensures.some.0 c.in-Some.ensures.some.1 c.hear-answer.ensures.answers c.hear-answer.ensures.called c.hear-answer.ensures.schedule
-
-pub returns-then-not-has_turn : goal.returns-then-not-has_turn
-returns-then-not-has_turn c = record {
-  shared = refl;
-  link = refl;
-  turn = λ arrived heard counted on. rests_of (link_turn (shared_told c.args.shared.now arrived) (link_told c.args.link.now heard)) (sym (c.has_turn.ensures arrived heard counted) ∙ c.if-not-has_turn.true);
-}

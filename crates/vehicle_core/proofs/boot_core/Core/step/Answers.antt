@@ -5,7 +5,7 @@ use Rattle.request_board.specs.WatchLaw.{WatchRules}
 use Rattle.vehicle_core.specs.ScheduleState.{same_actor}
 use Rattle.vehicle_core.specs.Fits.{role_name, LocalSuits}
 use Rattle.vehicle_core.specs.CoreState.{CoreState, CoreFits, CoreSteps, InputSuits, core_taken}
-use Rattle.vehicle_core.proofs.Given.{step_says, step_shows, absent_says}
+use Rattle.vehicle_core.proofs.Given.{step_says, absent_says}
 use Rattle.vehicle_core.proofs.CoreSteps.{some_is, got_at, input_suits, core_with, core_fits, core_steps, core_rests, other_there, none_there}
 use Rattle.vehicle_core.proofs.boot_core.Core.step.Goals.{else-place-len-via-then-place-len+else-is_named, else-place-len-via-else-place-len}
 use Rattle.vehicle_core.proofs.boot_core.Core.step.Goals as goal
@@ -77,19 +77,3 @@ returns-else-place-len-clause-given g c =
           (sym w.is_named.ensures ∙ w.if-is_named.false)
       | else-place-len-via-else-place-len w ↦ none_there c.args.self.now c.args.actor c.self.inside.locals.items c.place_of-place.result same c.place_of-place.ensures (omega (arith, w.if-place-len.false, c.len.ensures, c.self.inside.locals.ok.0))
     ]) c.requires.suits
-
-pub returns-then-is_named-clause-known : goal.returns-then-is_named-clause-known
-returns-then-is_named-clause-known g c =
-    let rules : WatchRules g.row.W.Denot = record { works = g.W.Watcher.works; tells = g.W.Watcher.tells } in
-    let core : CoreState g.row.W.Denot = record { shared = c.self.inside.shared; locals = c.self.inside.locals.items; links = c.self.inside.links } in
-    let fits : CoreFits g.W.Watcher.waits core = subst (CoreFits g.W.Watcher.waits) (sym c.self.view_is) c.requires.fits in
-    let place = c.place_of-place.result in
-    let less : place < length c.self.inside.locals.items = omega (arith, c.if-place-len.true, c.len.ensures, c.self.inside.locals.ok.0) in
-    let l = c.index_mut-local.result.now in
-    let at : slice_get c.self.inside.locals.items place ≡ Some l = got_at c.self.inside.locals.items place l less c.index_mut-local.ensures.value in
-    let seen : slice_get c.self.inside.locals.items place ≡ Some c.index.result.now = got_at c.self.inside.locals.items place c.index.result.now less c.index.ensures in
-    let named : same_actor c.args.actor (role_name l.role) ≡ true = ap (λ x. same_actor c.args.actor (role_name x.role)) (some_is l c.index.result.now (sym at ∙ seen)) ∙ sym c.is_named.ensures ∙ c.if-is_named.true in
-    step_shows rules g.W.Watcher.waits core.shared l c.args.input c.step.result c.step.new.shared c.step.new.local (fits.each place l at).1 c.step.ensures
-
-pub returns-else-place-len-clause-known : goal.returns-else-place-len-clause-known
-returns-else-place-len-clause-known g c = tt

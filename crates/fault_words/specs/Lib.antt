@@ -1,4 +1,0 @@
-pub mod Advice
-pub mod Places
-pub mod Found
-pub mod Explains

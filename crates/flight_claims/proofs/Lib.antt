@@ -1,2 +1,0 @@
-pub mod StillMarked
-pub mod Restarts

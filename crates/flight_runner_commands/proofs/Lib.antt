@@ -1,5 +1,0 @@
-mod Turns
-mod BootRuns
-mod Texts
-mod WorkerTurns
-mod Crews

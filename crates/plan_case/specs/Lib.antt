@@ -1,4 +1,0 @@
-pub mod Drawn
-pub mod Plans
-pub mod Inputs
-pub mod CaseScript
